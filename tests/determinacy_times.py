@@ -1,8 +1,8 @@
-"""Sheets for which the test of REQUESTS (xii) takes long, and the CPU time of crates/case_answers on each.
+"""Sheets for which the test of REQUESTS (xii) takes long, and the CPU time of crates/engine_cases on each.
 
     tests/determinacy_times.py        milliseconds a sheet; exit status 1 where one is over the bound
 
-PROGRAM names another program than crates/case_answers/out/case_answers. It runs in a folder with no other file of cases; the time of a file without a sheet is taken off.
+PROGRAM names another program than crates/engine_cases/out/engine_cases. It runs in a folder with no other file of cases; the time of a file without a sheet is taken off.
 """
 
 import os
@@ -94,7 +94,7 @@ def seconds(program, cases):
 
 
 def main():
-    program, slow = os.path.abspath(os.environ.get("PROGRAM", "crates/case_answers/out/case_answers")), False
+    program, slow = os.path.abspath(os.environ.get("PROGRAM", "crates/engine_cases/out/engine_cases")), False
     for name, sheet in SHEETS.items():
         record = b"D" + len(sheet).to_bytes(3, "little") + sheet.encode()
         times = []

@@ -1,9 +1,9 @@
-"""Writes the files of cases that crates/case_answers reads, and what it must write.
+"""Writes the files of cases that crates/engine_cases reads, and what it must write.
 
 python3 tests/make_cases.py read|check|run|list|trace|determinacy
 
-The cases of a kind are the file of its name in crates/case_answers/data.  Their outputs
-are a part of crates/case_answers/stdout, which has the kinds in this order; the file
+The cases of a kind are the file of its name in crates/engine_cases/data.  Their outputs
+are a part of crates/engine_cases/stdout, which has the kinds in this order; the file
 parts beside it says how many bytes are each one's.  The other kinds stay as they are.
 
 First the engine is held to the worked examples (test_engine.py); where it fails
@@ -27,7 +27,7 @@ import test_engine
 import trace_cases
 import written
 
-CRATE = Path(__file__).resolve().parent.parent / "crates" / "case_answers"
+CRATE = Path(__file__).resolve().parent.parent / "crates" / "engine_cases"
 MOST_BYTES, MOST_TEXT = 1_000_000, 20_000
 COUNTED_STEPS = 1_000  # steps over which both counts of demand 3 are taken
 

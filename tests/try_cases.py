@@ -1,4 +1,4 @@
-"""Runs crates/case_answers on the cases of one kind by `rt try`, which compiles it without a proof.
+"""Runs crates/engine_cases on the cases of one kind by `rt try`, which compiles it without a proof.
 
 python3 tests/try_cases.py read|check|run|list|trace|determinacy
 

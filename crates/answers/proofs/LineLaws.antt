@@ -9,7 +9,7 @@ use Rattle.syntax.specs.Limits.{variables}
 use Rattle.run_layout.specs.Regions.{cells}
 use Rattle.syntax.specs.Quote.{bytes}
 use Rattle.syntax.specs.Terms.{Goal}
-use Rattle.words.specs.Buffers.{Put}
+use Rattle.words.specs.Buffers.{Appended}
 use Rattle.machine.specs.Substitution.{Variable, Binding}
 use Rattle.machine.specs.Answers.{place_of, bytes_of, all_anonymous, values_from, line}
 use Rattle.run_layout.specs.Nodes.{Symbol}
@@ -61,8 +61,8 @@ line-values g b e = rw (e, line)
 pub fitted_none : {whole old : List ℕ} {at : ℕ} → length old < at + length whole → Fitted whole old at old None
 fitted_none l = record { fits = λ h. absurd (omega arith); full = λ h. (refl, refl) }
 
-pub fitted_some : {whole old new : List ℕ} {at r : ℕ} → at + length whole ≤ length old → Put old at whole new r → Fitted whole old at new (Some r)
-fitted_some {whole} {old} {new} l p = record { fits = λ h. (subst (Put old _ whole new) p.past p, ap Some p.past); full = λ h. absurd (omega arith) }
+pub fitted_some : {whole old new : List ℕ} {at r : ℕ} → at + length whole ≤ length old → Appended old at whole new r → Fitted whole old at new (Some r)
+fitted_some {whole} {old} {new} l p = record { fits = λ h. (subst (Appended old _ whole new) p.past p, ap Some p.past); full = λ h. absurd (omega arith) }
 
 pub line-fits-yes : (g : Goal) (b : List Binding) {xs : List (List ℕ)} {r : Bool} {old new : List ℕ} {at : ℕ} {next : Option ℕ} → r ≡ all_anonymous xs → r ≡ true → g.names ≡ xs → Fitted (bytes "yes\n") old at new next → Fitted (line g b) old at new next
 line-fits-yes g b e t q p = let is : line g b ≡ bytes "yes\n" = line-yes g b (ap all_anonymous q ∙ (sym e ∙ t)) in rw is p
@@ -79,7 +79,7 @@ measured-none {whole} {at = at} {limit = limit} e l p = fitted_none (let k : lim
 
 pub measured-put : {whole nothing nothing' old new : List ℕ} {at past r limit : ℕ} → limit ≡ length old → past ≤ limit → Lined limit whole nothing at nothing' past → Lined limit whole old at new r → Fitted whole old at new (Some r)
 measured-put {whole} {nothing} {nothing'} {at = at} {past} {r} {limit} e l p q =
-    let put : Put nothing at whole nothing' past = p.done l in
+    let put : Appended nothing at whole nothing' past = p.done l in
     let is : past ≡ at + length whole = put.past in
     fitted_some (omega arith) (q.done (small (λ z. let k : limit < at + length whole = q.over z in omega arith)))
   where

@@ -13,7 +13,7 @@ use borrow.Author.Tests.{eqb-true, eqb-false}
 use Rattle.syntax.specs.Limits.{word_bytes}
 use Rattle.run_layout.specs.Regions.{cells}
 use Rattle.syntax.specs.Tokens.{spelling}
-use Rattle.words.specs.Buffers.{Put, decimal}
+use Rattle.words.specs.Buffers.{Appended, decimal}
 use Rattle.words.proofs.BuffersLaws.{then, decimal-few}
 use Rattle.machine.specs.Substitution.{Variable, same_variable}
 use Rattle.machine.specs.Answers.{Piece, unbound, place_of, numbered, bytes_of}
@@ -22,28 +22,29 @@ use Rattle.run_layout.specs.State.{variable_of}
 use Rattle.run_layout.proofs.State.{cell-eq}
 use Rattle.run_layout.specs.SymbolNames.{name_at, NamePlaced, symbol_name, text_of}
 use Rattle.answers.specs.Words.{number_among, Numbers}
-use Rattle.run_layout.specs.Symbols.{symbol_place, symbol_length}
+use Rattle.syntax.specs.Spans.{span_length}
+use Rattle.run_layout.specs.Symbols.{symbol_place}
 use Rattle.answers.specs.Telling.{VariableNumbered, Written, SpeltSoFar}
 
 -- ---- a part of a text, by its place and length as they were taken out of a word
 
-pub put-part : (text : List ℕ) {out out' : List ℕ} {at a b l m r : ℕ} → a ≡ b → l ≡ m → Put out at (spelling text a l) out' r → Put out at (spelling text b m) out' r
-put-part text {out} {out'} {at} {r = r} e f p = subst (λ (x : List ℕ). Put out at x out' r) (ap₂ (spelling text) e f) p
+pub put-part : (text : List ℕ) {out out' : List ℕ} {at a b l m r : ℕ} → a ≡ b → l ≡ m → Appended out at (spelling text a l) out' r → Appended out at (spelling text b m) out' r
+put-part text {out} {out'} {at} {r = r} e f p = subst (λ (x : List ℕ). Appended out at x out' r) (ap₂ (spelling text) e f) p
 
 -- ---- names
 
 -- the name of symbol k is the part of a text that its word gives
-module _ (symbols sheet goal : List ℕ) (k w : ℕ) {text : List ℕ} {at len : ℕ} (is : text ≡ text_of w sheet goal) (listed : w ≡ get_or symbols k 0) (place : at ≡ symbol_place w) (long : len ≡ symbol_length w) where
+module _ (symbols sheet goal : List ℕ) (k w : ℕ) {text : List ℕ} {at len : ℕ} (is : text ≡ text_of w sheet goal) (listed : w ≡ get_or symbols k 0) (place : at ≡ symbol_place w) (long : len ≡ span_length w) where
   pub name-inside : NamePlaced symbols sheet goal k → at + len ≤ length text
   name-inside h =
-      let i : symbol_place (get_or symbols k 0) + symbol_length (get_or symbols k 0) ≤ length (text_of (get_or symbols k 0) sheet goal) = h.inside in
-      let e : symbol_place w + symbol_length w ≤ length (text_of w sheet goal) = subst⁻¹ (λ (x : ℕ). symbol_place x + symbol_length x ≤ length (text_of x sheet goal)) listed i in
+      let i : symbol_place (get_or symbols k 0) + span_length (get_or symbols k 0) ≤ length (text_of (get_or symbols k 0) sheet goal) = h.inside in
+      let e : symbol_place w + span_length w ≤ length (text_of w sheet goal) = subst⁻¹ (λ (x : ℕ). symbol_place x + span_length x ≤ length (text_of x sheet goal)) listed i in
       rw (is, place, long) e
 
-  pub name-is : {out out' : List ℕ} {from r : ℕ} → Put out from (spelling text at len) out' r → Put out from (name_at symbols sheet goal k) out' r
+  pub name-is : {out out' : List ℕ} {from r : ℕ} → Appended out from (spelling text at len) out' r → Appended out from (name_at symbols sheet goal k) out' r
   unfolding name_at
   name-is {out} {out'} {from} {r} p =
-      subst (λ (v : ℕ). Put out from (symbol_name sheet goal v) out' r) listed (rw (← is, ← place, ← long) p)
+      subst (λ (v : ℕ). Appended out from (symbol_name sheet goal v) out' r) listed (rw (← is, ← place, ← long) p)
 
 -- ---- places among the variables met
 
@@ -204,7 +205,7 @@ number-new met x numbers l z h = go (place_of (variable_of x) 1 met) refl (place
 -- ---- decimals
 
 -- an unbound variable: an underscore, then its number
-pub unbound-told : (met : List Variable) (x : ℕ) {r m : ℕ} {mid : List ℕ} {from to : Written} → length met ≤ from.at → VariableNumbered met x to.numbers r → Put from.out from.at (95 ∷ []) mid m → Put mid m (decimal r) to.out to.at
+pub unbound-told : (met : List Variable) (x : ℕ) {r m : ℕ} {mid : List ℕ} {from to : Written} → length met ≤ from.at → VariableNumbered met x to.numbers r → Appended from.out from.at (95 ∷ []) mid m → Appended mid m (decimal r) to.out to.at
     → (ps : List Piece) → SpeltSoFar (bytes_of met (unbound (variable_of x) ∷ ps)) from to ps
 unfolding numbered
 unbound-told met x {r} {m} {from = from} {to} few n p q ps =
@@ -217,10 +218,10 @@ unbound-told met x {r} {m} {from = from} {to} few n p q ps =
       is = n.is ps;
     }
 
-pub unbound-near : (at m next r : ℕ) (old mid new : List ℕ) → r < 2 ^ 64 → Put old at (95 ∷ []) mid m → Put mid m (decimal r) new next → (at ≤ next) × (next ≤ at + word_bytes)
+pub unbound-near : (at m next r : ℕ) (old mid new : List ℕ) → r < 2 ^ 64 → Appended old at (95 ∷ []) mid m → Appended mid m (decimal r) new next → (at ≤ next) × (next ≤ at + word_bytes)
 unbound-near at m next r old mid new h p q = let a : m ≡ at + 1 = p.past in let b : next ≡ m + length (decimal r) = q.past in let k : length (decimal r) ≤ 20 = decimal-few r h in (omega arith, omega arith)
 
-pub name-near : (text out out' : List ℕ) (from len at r : ℕ) → len ≤ word_bytes → Put out at (spelling text from len) out' r → r ≤ at + word_bytes
+pub name-near : (text out out' : List ℕ) (from len at r : ℕ) → len ≤ word_bytes → Appended out at (spelling text from len) out' r → r ≤ at + word_bytes
 name-near text out out' from len at r h p =
     let a : r ≡ at + length (spelling text from len) = p.past in
     let b : length (take len (drop from text)) ≤ len = rw length-take (omega arith) in

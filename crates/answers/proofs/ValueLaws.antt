@@ -15,7 +15,7 @@ use Rattle.syntax.specs.Spans.{span_at, span_length, spanned, SpanInside, names_
 use Rattle.run_layout.specs.Regions.{copies, copy_cells, cells, deepest, open_size}
 use Rattle.syntax.specs.Quote.{bytes}
 use Rattle.syntax.specs.Terms.{same_bytes}
-use Rattle.words.specs.Buffers.{Put}
+use Rattle.words.specs.Buffers.{Appended}
 use Rattle.words.proofs.BuffersLaws.{then, nothing}
 use Rattle.machine.specs.Substitution.{Variable, RTerm, var, Binding, resolve}
 use Rattle.machine.specs.Answers.{Piece, unbound, bytes_then, spelt, bytes_of, is_anonymous, all_anonymous, values_from}
@@ -167,10 +167,10 @@ module _ {ss : List Symbol} {n : ℕ} {sol : Solution} {stack : List ℕ} {i w :
 
 -- ---- what stands before a value
 
-pub gap-none : {more : Bool} (out : List ℕ) (at : ℕ) → more ≡ false → Put out at (gap more) out at
+pub gap-none : {more : Bool} (out : List ℕ) (at : ℕ) → more ≡ false → Appended out at (gap more) out at
 gap-none out at e = rw e (nothing out at)
 
-pub gap-some : {more : Bool} {out new : List ℕ} {at next : ℕ} → more ≡ true → Put out at (bytes ", ") new next → Put out at (gap more) new next
+pub gap-some : {more : Bool} {out new : List ℕ} {at next : ℕ} → more ≡ true → Appended out at (bytes ", ") new next → Appended out at (gap more) new next
 gap-some e p = rw e p
 
 pub gap-short : (more : Bool) → length (gap more) ≤ 2
@@ -225,7 +225,7 @@ binding-skip b i more w limit goal xs met {from} e t k n =
     walked-told limit (told-words met [] n (few-met k n) (nothing from.out from.at) (ap (bytes_of met) (values-skip b i (gap more) (spanned goal w) xs (sym e ∙ t))))
 
 pub binding-give : (b : List Binding) (i : ℕ) (more : Bool) (w limit : ℕ) (goal : List ℕ) (xs : List (List ℕ)) (met : List Variable) {from mid to : Written} {r : Bool} → r ≡ is_anonymous (spanned goal w) → r ≡ false
-    → Put from.out from.at (gap more ++ (spanned goal w ++ bytes " = ")) mid.out mid.at
+    → Appended from.out from.at (gap more ++ (spanned goal w ++ bytes " = ")) mid.out mid.at
     → SpeltToLimit limit (bytes_of met (spelt (value_in b i) (values_from b (suc i) (bytes ", ") xs))) mid to (values_from b (suc i) (bytes ", ") xs)
     → SpeltToLimit limit (bytes_of met (values_from b i (gap more) (spanned goal w ∷ xs))) from to (values_from b (suc i) (gap true) xs)
 binding-give b i more w limit goal xs met {from} {mid} e t p v =
@@ -287,7 +287,7 @@ module _ {sol : Solution} {stack₀ : List ℕ} {from : Written} {limit : ℕ} w
         record { met = t.met; numbers_are = t.numbers_are; few = t.few; near = f }
 
     -- the variables numbered at the end, where the limit is not passed
-    pub listing-counted : {new : List ℕ} {next : ℕ} → SomeValues sol stack₀ → Counting from.numbers from.at → listed.at + 100 < 2 ^ 64 → Put out listed.at (10 ∷ []) new next → next ≤ limit → SomeNumbers numbers
+    pub listing-counted : {new : List ℕ} {next : ℕ} → SomeValues sol stack₀ → Counting from.numbers from.at → listed.at + 100 < 2 ^ 64 → Appended out listed.at (10 ∷ []) new next → next ≤ limit → SomeNumbers numbers
     listing-counted {next = next} s k f p l =
         let a : next ≡ listed.at + 1 = p.past in
         let t : Counting numbers listed.at = listing-counting s k (omega arith) f in
@@ -310,11 +310,11 @@ module _ {sol : Solution} {stack₀ : List ℕ} {from : Written} {limit : ℕ} w
     pub listing-over : limit < listed.at → (ss : List Symbol) (n : ℕ) (met : List Variable) → Values ss n sol stack₀ → Numbers from.numbers met → Lined limit (bytes_of met (pieces ss n sol)) from.out from.at out listed.at
     listing-over l ss n met v h = record { done = λ k. absurd (omega arith); over = λ k. (g ss n met v h).over k }
 
-    pub listing-end : {new : List ℕ} {next : ℕ} → sol.count ≤ i → Put out listed.at (10 ∷ []) new next → (ss : List Symbol) (n : ℕ) (met : List Variable) → Values ss n sol stack₀ → Numbers from.numbers met → Lined limit (bytes_of met (pieces ss n sol)) from.out from.at new next
+    pub listing-end : {new : List ℕ} {next : ℕ} → sol.count ≤ i → Appended out listed.at (10 ∷ []) new next → (ss : List Symbol) (n : ℕ) (met : List Variable) → Values ss n sol stack₀ → Numbers from.numbers met → Lined limit (bytes_of met (pieces ss n sol)) from.out from.at new next
     unfolding values_from bytes_of
     listing-end {new} {next} l p ss n met v h = record { done = λ k. ended (let a : next ≡ listed.at + 1 = p.past in omega arith); over = λ k. past-it k (leb listed.at limit) refl }
       where
-        ended : listed.at ≤ limit → Put from.out from.at (bytes_of met (pieces ss n sol)) new next
+        ended : listed.at ≤ limit → Appended from.out from.at (bytes_of met (pieces ss n sol)) new next
         ended q =
             let t : SpeltSoFar (bytes_of met (pieces ss n sol)) from (written numbers out listed.at) (pieces_after ss n sol i listed.more) = (g ss n met v h).done q in
             let e : bytes_of met (pieces ss n sol) ≡ t.words ++ (10 ∷ []) = t.is ∙ ap (λ (zs : List (List ℕ)). t.words ++ bytes_of t.met (values_from (bindings_of ss n sol) i (gap listed.more) zs)) (names-none sol.goal.now sol.names.now i sol.count l) in

@@ -12,7 +12,7 @@ use borrow.Author.Tests.{eqb-true, eqb-false, eq-eqb, ne_eqb}
 use Rattle.syntax.specs.Words.{first_name}
 use Rattle.run_layout.specs.Regions.{copies, copy_cells, cells, places, deepest, open_size, loaded_node}
 use Rattle.syntax.specs.Terms.{Term, variable, compound, arity}
-use Rattle.words.specs.Buffers.{Put}
+use Rattle.words.specs.Buffers.{Appended}
 use Rattle.words.proofs.BuffersLaws.{then, nothing}
 use Rattle.machine.specs.Substitution.{Variable, RTerm, RTerms, var, app, rnil, rcons, Binding, resolve}
 use Rattle.machine.specs.Answers.{Piece, byte, unbound, bytes_then, spelt, spelt_args, spelt_more, bytes_of}
@@ -22,7 +22,7 @@ use Rattle.run_layout.specs.Nodes.{Symbol, is_symbol, symbol_of, is_listed, name
 use Rattle.run_layout.specs.State.{cell_of, variable_of}
 use Rattle.run_layout.proofs.Nodes.{node-inside, node-size, node_end, variable-at, compound-row, compound-at, row-none, row_cons, row_first, row-rest, row-order}
 use Rattle.run_layout.proofs.State.{variable-cell, cell-small, resolve-unbound}
-use Rattle.bindings.specs.Cells.{StoredTerm, Derefs}
+use Rattle.bindings.specs.Cells.{StoredTerm, Dereferences}
 use Rattle.run_layout.specs.SymbolNames.{NamePlaced, name_at}
 use Rattle.answers.specs.Words.{Numbers, resolved_all, depth, depth_all, spelt_row, row_terms, left_to_spell, RowPending, Rows, row_word, end_word, new_row, moved_row, row_place, row_more, span_word, row_last, row_copy}
 use Rattle.answers.specs.Telling.{bindings_of, separator_of, Written, SpeltSoFar, Ample, Counting, Heading, Setting, SomeSetting, Facing, Walk, Spelling, SpeltToLimit}
@@ -146,7 +146,7 @@ unfolding spelt
 spelt-name f ts ps = refl
 
 -- some bytes of the whole told
-pub told-words : (met : List Variable) (ws : List ℕ) {whole : List ℕ} {from to : Written} {ps : List Piece} → Numbers to.numbers met → length met ≤ from.at → Put from.out from.at ws to.out to.at → whole ≡ ws ++ bytes_of met ps
+pub told-words : (met : List Variable) (ws : List ℕ) {whole : List ℕ} {from to : Written} {ps : List Piece} → Numbers to.numbers met → length met ≤ from.at → Appended from.out from.at ws to.out to.at → whole ≡ ws ++ bytes_of met ps
     → SpeltSoFar whole from to ps
 told-words met ws {from = from} {to} n few p e =
     record { words = ws; put = p; met = met; numbers_are = n; few = (let a : to.at ≡ from.at + length ws = p.past in omega arith); is = e }
@@ -227,7 +227,7 @@ module _ {ss : List Symbol} {b : List Binding} {sol : Solution} {stack : List �
 
   -- a name: its bytes, and its arguments are left
   name-told : (met : List Variable) (k : ℕ) {from to : Written} (ps : List Piece) → first_name ≤ get_or sol.nodes.now p 0 → k ≡ get_or sol.nodes.now p 0 - first_name → Numbers to.numbers met → length met ≤ from.at
-      → Put from.out from.at (name_at sol.symbols.now sol.sheet.now sol.goal.now k) to.out to.at → SpeltSoFar (bytes_of met (spelt (resolve b (term_at ss sol.nodes.now p c)) ps)) from to (spelt_args (resolved_all b args) ps)
+      → Appended from.out from.at (name_at sol.symbols.now sol.sheet.now sol.goal.now k) to.out to.at → SpeltSoFar (bytes_of met (spelt (resolve b (term_at ss sol.nodes.now p c)) ps)) from to (spelt_args (resolved_all b args) ps)
   name-told met k ps l e n few put =
       told-words met (name_at sol.symbols.now sol.sheet.now sol.goal.now k) n few put
       (ap (λ (s : RTerm). bytes_of met (spelt s ps)) (head-is l)
@@ -236,7 +236,7 @@ module _ {ss : List Symbol} {b : List Binding} {sol : Solution} {stack : List �
       ∙ ap (λ (f : List ℕ). f ++ bytes_of met (spelt_args (resolved_all b args) ps)) (sym (head-name k l e)))))
 
   pub head-leaf : {met : List Variable} {k : ℕ} {from to : Written} {rest : List Piece} → first_name ≤ get_or sol.nodes.now p 0 → k ≡ get_or sol.nodes.now p 0 - first_name → get_or sol.nodes.now (p + 1) 0 ≡ 2 → Numbers to.numbers met → length met ≤ from.at
-      → Put from.out from.at (name_at sol.symbols.now sol.sheet.now sol.goal.now k) to.out to.at
+      → Appended from.out from.at (name_at sol.symbols.now sol.sheet.now sol.goal.now k) to.out to.at
       → Spelling ss sol.nodes.now b (bytes_of met (spelt (resolve b (term_at ss sol.nodes.now p c)) (left_to_spell ss sol.nodes.now b stack height rest))) from (record { text = to; stack = stack; height = height }) rest
   unfolding args resolved_all spelt_args
   head-leaf {met} {k} {rest = rest} l e z n few put =
@@ -257,7 +257,7 @@ module _ {ss : List Symbol} {b : List Binding} {sol : Solution} {stack : List �
       record { row = rw (x, y) (compound-row ss sol.nodes.now p h.node l); opened = λ q. rw (x, y) (opens z); shallow = rw (x, y, w) (args-shallow l) }
 
   pub head-open : {met : List Variable} {k last : ℕ} {from to : Written} {after : List ℕ} {rest : List Piece} → first_name ≤ get_or sol.nodes.now p 0 → k ≡ get_or sol.nodes.now p 0 - first_name → (get_or sol.nodes.now (p + 1) 0 ≡ loaded_node → ⊥) → Numbers to.numbers met → length met ≤ from.at
-      → Put from.out from.at (name_at sol.symbols.now sol.sheet.now sol.goal.now k) to.out to.at → last ≡ p + get_or sol.nodes.now (p + 1) 0 → after ≡ set (set stack (height * open_size) (new_row (p + loaded_node))) (height * open_size + 1) (span_word last c)
+      → Appended from.out from.at (name_at sol.symbols.now sol.sheet.now sol.goal.now k) to.out to.at → last ≡ p + get_or sol.nodes.now (p + 1) 0 → after ≡ set (set stack (height * open_size) (new_row (p + loaded_node))) (height * open_size + 1) (span_word last c)
       → Spelling ss sol.nodes.now b (bytes_of met (spelt (resolve b (term_at ss sol.nodes.now p c)) (left_to_spell ss sol.nodes.now b stack height rest))) from (record { text = to; stack = after; height = height + 1 }) rest
   unfolding args
   head-open {met} {k} {after = after} {rest} l e z n few put m s =
@@ -286,7 +286,7 @@ module _ {ss : List Symbol} {n : ℕ} {sol : Solution} {stack : List ℕ} {p c h
   abbrev pub facing-stored : StoredTerm sol.nodes.now sol.state.now p c
   facing-stored = record { ss = ss; n = n; store = f.setting.store; node = f.node; copy = f.copy }
 
-  pub facing-head : {q d : ℕ} → Derefs ss sol.nodes.now sol.state.now n p c q d → Heading ss (bindings_of ss n sol) sol stack q d height
+  pub facing-head : {q d : ℕ} → Dereferences ss sol.nodes.now sol.state.now n p c q d → Heading ss (bindings_of ss n sol) sol stack q d height
   facing-head {q} {d} l =
       record {
         node = l.leads.node;
@@ -304,14 +304,14 @@ module _ {ss : List Symbol} {n : ℕ} {sol : Solution} {stack : List ℕ} {p c h
           let is : term_at ss sol.nodes.now q d ≡ var (variable_of (cell_of d (get_or sol.nodes.now q 0))) = variable-at ss sol.nodes.now q l.leads.node d low ∙ ap var (sym (variable-cell d (get_or sol.nodes.now q 0) low)) in
           rw is (resolve-unbound ss sol.nodes.now sol.state.now n (cell_of d (get_or sol.nodes.now q 0)) f.setting.store (cell-small d (get_or sol.nodes.now q 0) l.leads.copy low) (l.stops low))
 
-  pub facing-spelt : {q d : ℕ} (met : List Variable) {from : Written} {to : Walk} (rest : List Piece) → Derefs ss sol.nodes.now sol.state.now n p c q d
+  pub facing-spelt : {q d : ℕ} (met : List Variable) {from : Written} {to : Walk} (rest : List Piece) → Dereferences ss sol.nodes.now sol.state.now n p c q d
       → Spelling ss sol.nodes.now (bindings_of ss n sol) (bytes_of met (spelt (resolve (bindings_of ss n sol) (term_at ss sol.nodes.now q d)) (left_to_spell ss sol.nodes.now (bindings_of ss n sol) stack height rest))) from to rest
       → Spelling ss sol.nodes.now (bindings_of ss n sol) (bytes_of met (spelt (resolve (bindings_of ss n sol) (term_at ss sol.nodes.now p c)) (left_to_spell ss sol.nodes.now (bindings_of ss n sol) stack height rest))) from to rest
   facing-spelt met rest l s =
       record { told = told-whole (ap (λ (t : RTerm). bytes_of met (spelt t (left_to_spell ss sol.nodes.now (bindings_of ss n sol) stack height rest))) (sym l.leads.means)) s.told; rows = s.rows }
 
 -- bytes before a part that is told
-pub told-after : {whole ws : List ℕ} {from mid to : Written} (met : List Variable) (ps : List Piece) {qs : List Piece} → Put from.out from.at ws mid.out mid.at → whole ≡ ws ++ bytes_of met ps → SpeltSoFar (bytes_of met ps) mid to qs → SpeltSoFar whole from to qs
+pub told-after : {whole ws : List ℕ} {from mid to : Written} (met : List Variable) (ps : List Piece) {qs : List Piece} → Appended from.out from.at ws mid.out mid.at → whole ≡ ws ++ bytes_of met ps → SpeltSoFar (bytes_of met ps) mid to qs → SpeltSoFar whole from to qs
 told-after {ws = ws} met ps {qs} p e u =
     record {
       words = ws ++ u.words;
@@ -362,7 +362,7 @@ module _ {ss : List Symbol} {n : ℕ} {sol : Solution} {stack : List ℕ} {heigh
 
   -- the closing bracket
   pub turn-close : {place last : ℕ} → place ≡ row_place (row_word stack top) → last ≡ row_last (end_word stack top) → place ≡ last
-      → (met : List Variable) {from to : Written} (rest : List Piece) → Numbers to.numbers met → length met ≤ from.at → Put from.out from.at (41 ∷ []) to.out to.at
+      → (met : List Variable) {from to : Written} (rest : List Piece) → Numbers to.numbers met → length met ≤ from.at → Appended from.out from.at (41 ∷ []) to.out to.at
       → Spelling ss sol.nodes.now (bindings_of ss n sol) (bytes_of met (left_to_spell ss sol.nodes.now (bindings_of ss n sol) stack height rest)) from (record { text = to; stack = stack; height = top }) rest
   turn-close {place} {last} ep el e met rest num few put =
       let same : row_place (row_word stack top) ≡ row_last (end_word stack top) = omega arith in
@@ -440,7 +440,7 @@ module _ {ss : List Symbol} {n : ℕ} {sol : Solution} {stack : List ℕ} {heigh
           ∙ (left-pushed ss sol.nodes.now (bindings_of ss n sol) stack after top (moved_row next) (end_word stack top) pushed rest
           ∙ rw (odd, half, ← el, ← ec))
 
-      pub turn-spelt : (met : List Variable) {from mid : Written} {to : Walk} {more : Bool} {mark : ℕ} (rest : List Piece) → more ≡ row_more (row_word stack top) → mark ≡ separator_of more → Put from.out from.at (mark ∷ []) mid.out mid.at
+      pub turn-spelt : (met : List Variable) {from mid : Written} {to : Walk} {more : Bool} {mark : ℕ} (rest : List Piece) → more ≡ row_more (row_word stack top) → mark ≡ separator_of more → Appended from.out from.at (mark ∷ []) mid.out mid.at
           → Spelling ss sol.nodes.now (bindings_of ss n sol) (bytes_of met (spelt (resolve (bindings_of ss n sol) (term_at ss sol.nodes.now place copy)) (left_to_spell ss sol.nodes.now (bindings_of ss n sol) after height rest))) mid to rest
           → Spelling ss sol.nodes.now (bindings_of ss n sol) (bytes_of met (left_to_spell ss sol.nodes.now (bindings_of ss n sol) stack height rest)) from to rest
       turn-spelt met {mark = mark} rest em es put sp =

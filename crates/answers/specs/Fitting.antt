@@ -1,6 +1,6 @@
 -- What the line of an answer is made from, and where it fits.
 use Rattle.std.specs.Prelude.{ℕ, ◌+◌, ◌<◌, ◌≤◌, ◌≡◌, List, length, Option, Some, None}
-use Rattle.words.specs.Buffers.{Put}
+use Rattle.words.specs.Buffers.{Appended}
 use Rattle.run_layout.specs.Nodes.{Symbol}
 use Rattle.run_layout.specs.State.{Store}
 use Rattle.run_layout.specs.SymbolNames.{SymbolsSpelt}
@@ -20,5 +20,5 @@ pub record SomeAnswerable (sol : Solution) : Type 0 where
 
 -- Where the whole line fits it is written and the next position given; else nothing is written, and no position is given.
 pub record Fitted (line old : List ℕ) (at : ℕ) (new : List ℕ) (r : Option ℕ) : Type 0 where
-  pub fits : at + length line ≤ length old → Put old at line new (at + length line) × (r ≡ Some (at + length line))
+  pub fits : at + length line ≤ length old → Appended old at line new (at + length line) × (r ≡ Some (at + length line))
   pub full : length old < at + length line → (r ≡ None) × (new ≡ old)

@@ -5,7 +5,7 @@ use Rattle.syntax.specs.Words.{first_name}
 use Rattle.run_layout.specs.Regions.{copies, places, deepest, open_size}
 use Rattle.syntax.specs.Quote.{bytes}
 use Rattle.syntax.specs.Spans.{names_from}
-use Rattle.words.specs.Buffers.{Put}
+use Rattle.words.specs.Buffers.{Appended}
 use Rattle.machine.specs.Substitution.{Variable, RTerm, var, Binding, resolve}
 use Rattle.machine.specs.Answers.{Piece, unbound, numbered, bytes_of}
 use Rattle.run_layout.specs.Nodes.{Symbol, Node, term_at}
@@ -34,7 +34,7 @@ written numbers out at = record { numbers = numbers; out = out; at = at }
 -- Bytes are appended, and with what the pieces that are left give they are the whole.
 pub record SpeltSoFar (whole : List ℕ) (before after : Written) (ps : List Piece) : Type 0 where
   pub words : List ℕ
-  pub put : Put before.out before.at words after.out after.at
+  pub put : Appended before.out before.at words after.out after.at
   pub met : List Variable
   pub numbers_are : Numbers after.numbers met
   pub few : length met ≤ after.at
@@ -164,5 +164,5 @@ pub record SomeValues (sol : Solution) (stack : List ℕ) : Type 0 where
 
 -- The whole stands in the buffer, or the limit is passed, as it is by the whole.
 pub record Lined (limit : ℕ) (whole old : List ℕ) (at : ℕ) (new : List ℕ) (next : ℕ) : Type 0 where
-  pub done : next ≤ limit → Put old at whole new next
+  pub done : next ≤ limit → Appended old at whole new next
   pub over : limit < next → limit < at + length whole

@@ -1,4 +1,4 @@
--- What the tables of this crate mean: numbers of unbound variables, the stack of a walk, and the words of the goal's variables.
+-- What the tables of an answer mean: numbers of unbound variables, the stack of a walk, and the words of the goal's variables.
 use Rattle.std.specs.Prelude.{ℕ, zero, suc, max, ◌+◌, ◌*◌, ◌/◌, ◌%◌, ◌<◌, ◌≤◌, ◌≡◌, Bool, true, false, List, eqb, length, get_or}
 use Rattle.std.proofs.Math.Option.{none, some}
 use Rattle.syntax.specs.Limits.{variables}

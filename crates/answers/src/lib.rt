@@ -1,4 +1,4 @@
-// Terms of a run spelt from its words, and the goal's variables with their values.
+// The line of an answer, spelt from the words of a run: the goal's variables with their values, as RULES tells at the end of "The run".
 
 #![tactic(auto)]
 
@@ -7,19 +7,18 @@ mod records;
 pub mod values;
 mod walk;
 
-// A solution of a goal as it stands in the words of a run: the nodes, the state with the bindings, the words of the symbols, the two texts in which the names
-// stand, and the words of the goal's variables, of which the first `count` are in use: what is told of them (`names_from`) is over words and count.
-// Terms and values are spelt from it. The table of numbers, the stack and the text are no part of it, and go along with the position: they are written, and a
-// struct with `&mut` fields would have each function promise that it is still of the same three. So what is asked of them (`Counting`, `Ample`) stands in each
-// contract. (`SomeAnswerable`, which is asked of a solution, is no ghost field: such a field wants a fact with one proof at most, and this one brings the
-// symbols.)
+/// A solution of a goal as it stands in the words of a run. Terms and values are spelt from it; it is only read. What is written goes beside it: the table of
+/// numbers, the stack and the text, with what is asked of them (`Counting`, `Ample`).
 #[derive(Clone, Copy)]
 pub struct Solution<'a> {
     pub nodes: &'a [u32],
+    /// The words with the bindings.
     pub state: &'a [u32],
+    /// The words of the symbols, which say where in `sheet` or `goal` a name stands.
     pub symbols: &'a [u32],
     pub sheet: &'a [u8],
     pub goal: &'a [u8],
+    /// The packed names of the goal's variables, by first appearance; the first `count` are in use.
     pub names: &'a [u32],
     pub count: usize,
 }

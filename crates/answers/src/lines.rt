@@ -14,7 +14,7 @@ use crate::values::all_anonymous;
 use run_layout::CELLS;
 use words::buffers::append_all;
 
-// The table of numbers: a word for each cell, and their count.
+// The words of the table of numbers: one for each cell, and how many variables have a number.
 const NUMBERS: usize = CELLS + 1;
 
 // The line of an answer that gives no variable.
@@ -51,9 +51,9 @@ fn put_values(solution: Solution, stack: &mut [u32], text: &mut [u8], at: usize)
     Some(solution.append_values(&mut numbers, stack, text, at, room))
 }
 
-// Writes the line of an answer from at on and returns the position past it; where the whole line does not fit, writes nothing
-// and returns none. The stack has a row for each bracket that a value can have open at once
-// (`run_layout::DEEPEST`); or, where that is less, a row for each byte of room, and two.
+/// Writes the line of an answer, with its line feed, from `at` on and gives the position past it; where the whole line does not fit, it writes nothing and
+/// gives none. The stack has a row for each bracket that a value can have open at once (`run_layout::DEEPEST`); or, where that is less, one for each byte of
+/// room, and two more.
 pub fn put_answer(
     solution: Solution,
     stack: &mut [u32],

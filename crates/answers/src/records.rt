@@ -1,8 +1,8 @@
-// What the words of the node table, the state and the tables of this crate say.
+// What single words say: a symbol's name, an unbound variable's number, a row of the stack on which a term is spelt.
 ghost use Rattle.std.specs.Prelude.{◌≡◌, List, ◌∷◌, ◌+◌, ◌*◌, ◌^◌, ◌≤◌, ◌<◌, length, get_or, set};
 ghost use Rattle.syntax.specs.Limits.{word_bytes};
 ghost use Rattle.run_layout.specs.Regions.{copies, cells, places, open_size};
-ghost use Rattle.words.specs.Buffers.{Put};
+ghost use Rattle.words.specs.Buffers.{Appended};
 ghost use Rattle.machine.specs.Substitution.{Variable};
 ghost use Rattle.machine.specs.Answers.{Piece, unbound, bytes_of};
 ghost use Rattle.run_layout.specs.State.{variable_of};
@@ -13,36 +13,38 @@ ghost use Rattle.answers.specs.Telling.{VariableNumbered, SpeltSoFar, written};
 
 use crate::Solution;
 use run_layout::symbols::text_of;
-use run_layout::{CELLS, COPIES, OPEN_SIZE, symbol_length, symbol_place};
+use run_layout::{CELLS, COPIES, OPEN_SIZE, symbol_place};
 use words::buffers::{append_byte, append_decimal, append_part};
+use words::packing::span_length;
 use words::tables::word_at;
 
-// The arguments from place to last in a copy that are still to be spelt, and whether some of their list are spelt already.
+/// A row of the stack: the arguments of a name that are still to be spelt, from `place` up to `last`, in a copy.
 #[derive(Clone, Copy)]
 pub struct OpenRow {
     pub place: usize,
+    /// Whether some arguments of the same list are spelt already.
     pub more: bool,
     pub last: usize,
     pub copy: usize,
 }
 
 impl<'a> Solution<'a> {
-    // The name of a symbol.
+    /// Appends the name of symbol k and gives the position past it.
     pub fn append_name(self, k: usize, out: &mut [u8], at: usize) -> usize
         requires { (NamePlaced self.symbols.now self.sheet.now self.goal.now k) × (at + word_bytes < 2 ^ 64) }
-        ensures wrote { Put out.old at (name_at self.entry.symbols.now self.entry.sheet.now self.entry.goal.now k) out.new result }
+        ensures wrote { Appended out.old at (name_at self.entry.symbols.now self.entry.sheet.now self.entry.goal.now k) out.new result }
         ensures near { result ≤ at + word_bytes }
     {
         let w = self.symbols[k];
-        let len = symbol_length(w);
+        let len = span_length(w);
         let place = symbol_place(w);
         let text = text_of(w, self.sheet, self.goal);
         append_part(text, place, len, out, at)
     }
 }
 
-// The number of an unbound cell: the one it has, or one more than all so far. The last word counts them. A word is 0 where a cell has none: the table is
-// one array of words, zeros at first.
+/// The number of an unbound cell in an answer line, from 1 on: the one it has, or one more than all so far. In the table 0 stands for none, and the last word
+/// counts the numbers given.
 pub fn number_of(numbers: &mut [usize], x: usize) -> usize
     requires { (x < cells) × ((length numbers.old ≡ cells + 1) × (get_or numbers.old cells 0 + 1 < 2 ^ 64)) }
     ensures { (met : List Variable) → Numbers numbers.old met → VariableNumbered met x numbers.new result }
@@ -57,7 +59,7 @@ pub fn number_of(numbers: &mut [usize], x: usize) -> usize
     number
 }
 
-// An unbound variable, by its cell.
+/// Appends the unbound variable of cell x, as `_1`, and gives the position past it.
 pub fn append_unbound(numbers: &mut [usize], x: usize, out: &mut [u8], at: usize) -> usize
     requires { (x < cells) × ((length numbers.old ≡ cells + 1) × ((get_or numbers.old cells 0 ≤ at) × (at + word_bytes < 2 ^ 64))) }
     ensures told { (met : List Variable) → Numbers numbers.old met → (ps : List Piece)
@@ -69,7 +71,7 @@ pub fn append_unbound(numbers: &mut [usize], x: usize, out: &mut [u8], at: usize
     append_decimal(number, out, past)
 }
 
-// The row at a height of the stack.
+/// The row at a height of the stack.
 pub fn row_at(stack: &[u32], h: usize) -> OpenRow
     requires { h * open_size + open_size ≤ length stack.now }
     ensures place { result.place ≡ row_place (row_word stack.now h) }
@@ -88,7 +90,7 @@ pub fn row_at(stack: &[u32], h: usize) -> OpenRow
     }
 }
 
-// A row of arguments, none of them spelt.
+/// Lays a row of arguments at height h, none of them spelt.
 pub fn put_row(stack: &mut [u32], h: usize, place: usize, last: usize, copy: usize)
     requires { (h * open_size + open_size ≤ length stack.old) × ((place ≤ places) × ((last ≤ places) × (copy < copies))) }
     ensures { stack.new ≡ set (set stack.old (h * open_size) (new_row place)) (h * open_size + 1) (span_word last copy) }
@@ -98,7 +100,7 @@ pub fn put_row(stack: &mut [u32], h: usize, place: usize, last: usize, copy: usi
     stack[i + 1] = (last * COPIES + copy) as u32;
 }
 
-// A row whose first arguments are spelt, up to place.
+/// Moves the row at height h on to place: the arguments before it are spelt.
 pub fn move_row(stack: &mut [u32], h: usize, place: usize)
     requires { (h * open_size + open_size ≤ length stack.old) × (place ≤ places) }
     ensures { stack.new ≡ set stack.old (h * open_size) (moved_row place) }

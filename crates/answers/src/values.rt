@@ -4,7 +4,7 @@ ghost use Rattle.syntax.specs.Limits.{word_bytes};
 ghost use Rattle.syntax.specs.Spans.{spanned, SpanInside, names_from};
 ghost use Rattle.run_layout.specs.Regions.{open_size};
 ghost use Rattle.syntax.specs.Quote.{bytes};
-ghost use Rattle.words.specs.Buffers.{Put};
+ghost use Rattle.words.specs.Buffers.{Appended};
 ghost use Rattle.machine.specs.Substitution.{Variable};
 ghost use Rattle.machine.specs.Answers.{Piece, spelt, bytes_of, is_anonymous, all_anonymous, values_from};
 ghost use Rattle.run_layout.specs.Nodes.{Symbol};
@@ -19,7 +19,7 @@ use words::buffers::{append_all, append_byte, append_part};
 use words::packing::{span_at, span_length};
 use words::tables::word_at;
 
-// Whether a packed name of the goal is `_` alone.
+/// Whether a packed name of the goal is `_` alone.
 pub fn is_anonymous(goal: &[u8], w: u32) -> bool
     requires { SpanInside goal.now w }
     ensures { result ≡ is_anonymous (spanned goal.now w) }
@@ -27,12 +27,11 @@ pub fn is_anonymous(goal: &[u8], w: u32) -> bool
     span_length(w) == 1 && words::texts::byte_at(goal, span_at(w)) == b'_'
 }
 
-// Whether no variable is to be given.
+/// Whether no variable is to be given: each of the goal's is `_`, or it has none. The line is `yes` then.
 pub fn all_anonymous(goal: &[u8], names: &[u32], count: usize) -> bool
     requires { Named goal.now names.now count }
     ensures { result ≡ all_anonymous (names_from goal.now names.now 0 count) }
 {
-    // With `all` the closure would say the bound of `i` and that the name is within the text again, as its own `requires`: no plainer than the `for`.
     for i in 0..count {
         if !is_anonymous(goal, names[i]) {
             return false;
@@ -44,15 +43,15 @@ pub fn all_anonymous(goal: &[u8], names: &[u32], count: usize) -> bool
 // What stands before a variable that is given: nothing before the first.
 fn append_gap(more: bool, out: &mut [u8], at: usize) -> usize
     requires { at + 200 < 2 ^ 64 }
-    ensures { Put out.old at (gap more) out.new result }
+    ensures { Appended out.old at (gap more) out.new result }
 {
     if more { append_all(b", ", out, at) } else { at }
 }
 
-// A variable and the sign behind it.
+/// Appends a variable, what stands before it, and the sign behind it.
 pub fn append_variable(goal: &[u8], w: u32, more: bool, out: &mut [u8], at: usize) -> usize
     requires { (SpanInside goal.now w) × (at + 300 < 2 ^ 64) }
-    ensures wrote { Put out.old at (gap more ++ (spanned goal.now w ++ bytes " = ")) out.new result }
+    ensures wrote { Appended out.old at (gap more ++ (spanned goal.now w ++ bytes " = ")) out.new result }
     ensures near { (at ≤ result) × (result ≤ at + (word_bytes + 5)) }
 {
     let past = append_gap(more, out, at);
@@ -62,7 +61,7 @@ pub fn append_variable(goal: &[u8], w: u32, more: bool, out: &mut [u8], at: usiz
     append_all(b" = ", out, past_name)
 }
 
-// A position, and whether a variable is given already. The position is told in either case, so this is no Option.
+/// How far the line has come: the position, and whether a variable is given already.
 #[derive(Clone, Copy)]
 pub struct SpeltVariable {
     pub at: usize,
@@ -70,7 +69,7 @@ pub struct SpeltVariable {
 }
 
 impl<'a> Solution<'a> {
-    // The value of the goal's variable i.
+    /// Appends the value of the goal's variable i and gives the position past it; once the limit is passed it stops, and the text is not the whole value.
     pub fn append_value(
         self,
         i: usize,
@@ -98,7 +97,7 @@ impl<'a> Solution<'a> {
         self.append_rows(numbers, stack, out, t.at, t.height, limit)
     }
 
-    // The goal's variable i with its value, unless it is `_`; w is its packed name.
+    /// Appends the goal's variable i with its value, unless it is `_`; w is its packed name.
     pub fn append_binding(
         self,
         w: u32,
@@ -130,7 +129,8 @@ impl<'a> Solution<'a> {
         }
     }
 
-    // The variables that are given, each with its value, and the line feed; left once the limit is passed.
+    /// Appends the variables that are given, each with its value, and the line feed; it stops once the limit is passed. A text that is too short takes what
+    /// fits, so an empty one measures the line.
     pub fn append_values(
         self,
         numbers: &mut [usize],

@@ -18,8 +18,7 @@ use syntax::FIRST_NAME;
 use words::buffers::append_byte;
 use words::tables::word_at;
 
-// The position, and how many rows are on the stack. (As parameters they are two: `SomeSetting` is of the height and `Counting` of the position, and `turn`
-// hands on a new position with the height that it was given.)
+/// How far a walk has come: the position in the text, and how many rows are on the stack.
 #[derive(Clone, Copy)]
 pub struct SpellWalk {
     pub at: usize,
@@ -76,7 +75,7 @@ impl<'a> Solution<'a> {
         }
     }
 
-    // A term: where it leads, and then as above.
+    /// Appends the name or the unbound variable to which a term leads, and lays the name's arguments on the stack.
     pub fn append_term(
         self,
         t: At,
@@ -139,8 +138,8 @@ impl<'a> Solution<'a> {
         self.append_term(t, numbers, stack, out, past, height)
     }
 
-    // What the stack has left to spell, unless the limit is passed. A turn spells a byte or more and adds at most one row, so two words a byte
-    // serve.
+    /// Appends what the stack has left to spell and gives the position past it; it stops once the limit is passed. A turn spells a byte or more and adds at
+    /// most one row, so a row for each byte is room enough.
     pub fn append_rows(
         self,
         numbers: &mut [usize],
@@ -160,7 +159,7 @@ impl<'a> Solution<'a> {
     {
         let mut past = at;
         let mut rows = height;
-        // A `for` fixes its number of turns when it begins, and a turn may lay a row, which takes turns of its own.
+        // A turn may lay a row, which takes turns of its own, so the number of turns is known only at the end.
         while rows != 0 && past <= limit {
             let turned = self.turn(numbers, stack, out, past, rows);
             past = turned.at;

@@ -8,7 +8,7 @@ use Rattle.machine.proofs.Tests.{variable-eq}
 use Rattle.machine_theorems.proofs.Reached.{copied_copy}
 use Rattle.run_layout.specs.Regions.{copies, copy_cells, cells, store_words, loaded_node}
 use Rattle.run_layout.specs.Nodes.{Symbol, Node, term_at, terms_at}
-use Rattle.run_layout.specs.State.{cell_of, variable_of, word_of, node_of, copy_of, cell_at, trail_at, value_of, bindings, Store, Within, bound_words}
+use Rattle.run_layout.specs.State.{cell_of, variable_of, word_of, node_of, copy_of, cell_at, trail_at, value_of, bindings, Store, WithinCopies, bound_words}
 use Rattle.run_layout.proofs.Nodes.{node-inside, term-at, variable-at, compound-at, row_one, row-none, row_open}
 use Rattle.run_layout.proofs.State.{variable-cell, cell-eq, cell-small, resolve-unbound, copy-word, bound-cell, bound-cells, keeps-refl}
 use Rattle.bindings.specs.Queues.{Checkable, OccursChecked, Closed, Other, Plain, Closing}
@@ -100,7 +100,7 @@ closed-bound state n x q d k r long room small copy c h =
         subst⁻¹ (λ (z : ℕ). copy_of z < r) (bound-cells state n x (word_of q d) long room small y (omega arith) (eqb-false y x e)) ((h.closed state c).copy y l)
 
 -- what belongs to copies up to k is closed
-pub closed-within : (ss : List Symbol) (nodes state : List ℕ) (n k : ℕ) → Store ss nodes state n → Within k state n → k < copies → Closed (k + 1) state
+pub closed-within : (ss : List Symbol) (nodes state : List ℕ) (n k : ℕ) → Store ss nodes state n → WithinCopies k state n → k < copies → Closed (k + 1) state
 closed-within ss nodes state n k store w low =
     record { few = omega arith; copy = λ y l. at y l (eqb (cell_at state y) 0) refl }
   where

@@ -5,11 +5,11 @@ use Rattle.syntax.specs.Words.{first_name}
 use Rattle.machine.specs.Substitution.{var, resolve}
 use Rattle.run_layout.specs.Regions.{copies, cells, trail, store_words, loaded_node}
 use Rattle.run_layout.specs.Nodes.{Symbol, Node, term_at}
-use Rattle.run_layout.specs.State.{at_of, cell_of, variable_of, node_of, copy_of, cell_at, trail_at, value_of, bindings, TrailEntry, Store, Within, Keeps}
+use Rattle.run_layout.specs.State.{at_of, cell_of, variable_of, node_of, copy_of, cell_at, trail_at, value_of, bindings, TrailEntry, Store, WithinCopies, BindingsKept}
 use Rattle.run_layout.proofs.Nodes.{node-inside, variable-at}
 use Rattle.run_layout.proofs.State.{variable-cell, cell-small, copy-small, resolve-bound, undo-store, undo-keeps, keeps-refl, keeps-trans, few}
 use Rattle.run_layout.specs.declared.terms.At.{At}
-use Rattle.bindings.specs.Cells.{bound_at, StoredTerm, Leads, Derefs, Stored, Undone}
+use Rattle.bindings.specs.Cells.{bound_at, StoredTerm, MeansSame, Dereferences, Stored, Undone}
 
 pub bound-variable : (nodes state : List ℕ) (p c : ℕ) → get_or nodes p 0 < first_name → bound_at nodes state p c ≡ cell_at state (cell_of c (get_or nodes p 0))
 unfolding bound_at
@@ -24,7 +24,7 @@ pub record BoundCell (ss : List Symbol) (nodes state : List ℕ) (n x : ℕ) : T
   pub node : Node ss nodes (node_of (cell_at state x))
   pub down : get_or nodes (node_of (cell_at state x)) 0 < first_name → cell_of (copy_of (cell_at state x)) (get_or nodes (node_of (cell_at state x)) 0) < x
   pub means : resolve (bindings ss nodes state n) (term_at ss nodes (node_of (cell_at state x)) (copy_of (cell_at state x))) ≡ resolve (bindings ss nodes state n) (var (variable_of x))
-  pub within : (k : ℕ) → Within k state n → copy_of (cell_at state x) ≤ k
+  pub within : (k : ℕ) → WithinCopies k state n → copy_of (cell_at state x) ≤ k
 
 pub bound-cell-is : (ss : List Symbol) (nodes state : List ℕ) (n x : ℕ) → Store ss nodes state n → x < cells → (cell_at state x ≡ 0 → ⊥) → BoundCell ss nodes state n x
 unfolding value_of
@@ -50,10 +50,10 @@ pub depth-name : (nodes : List ℕ) (p c : ℕ) → first_name ≤ get_or nodes 
 unfolding depth
 depth-name nodes p c l = ap (λ (b : Bool). elim b [ true ↦ suc (cell_of c (get_or nodes p 0)) | false ↦ 0 ]) (le-ltb (get_or nodes p 0) first_name l)
 
-pub leads-begin : (nodes state : List ℕ) (p c : ℕ) (g : StoredTerm nodes state p c) → Leads g.ss nodes state g.n p c p c
+pub leads-begin : (nodes state : List ℕ) (p c : ℕ) (g : StoredTerm nodes state p c) → MeansSame g.ss nodes state g.n p c p c
 leads-begin nodes state p c g = record { node = g.node; copy = g.copy; means = refl; within = λ k w l. l }
 
-module _ (nodes state : List ℕ) (p c q d w : ℕ) (g : StoredTerm nodes state p c) (k : Leads g.ss nodes state g.n p c q d) (e : w ≡ bound_at nodes state q d) where
+module _ (nodes state : List ℕ) (p c q d w : ℕ) (g : StoredTerm nodes state p c) (k : MeansSame g.ss nodes state g.n p c q d) (e : w ≡ bound_at nodes state q d) where
   -- a word that is not 0 is that of a variable's cell
   is-variable : (w ≡ 0 → ⊥) → get_or nodes q 0 < first_name
   is-variable z = go (ltb (get_or nodes q 0) first_name) refl
@@ -72,9 +72,9 @@ module _ (nodes state : List ℕ) (p c q d w : ℕ) (g : StoredTerm nodes state 
     cell : BoundCell g.ss nodes state g.n (cell_of d (get_or nodes q 0))
     cell = bound-cell-is g.ss nodes state g.n (cell_of d (get_or nodes q 0)) g.store small (λ h. z (word ∙ h))
 
-    leads-word : Leads g.ss nodes state g.n p c (node_of w) (copy_of w)
+    leads-word : MeansSame g.ss nodes state g.n p c (node_of w) (copy_of w)
     leads-word =
-        subst⁻¹ (λ (y : ℕ). Leads g.ss nodes state g.n p c (node_of y) (copy_of y)) word
+        subst⁻¹ (λ (y : ℕ). MeansSame g.ss nodes state g.n p c (node_of y) (copy_of y)) word
         (record {
           node = cell.node;
           copy = copy-small (cell_at state (cell_of d (get_or nodes q 0)));
@@ -97,13 +97,13 @@ module _ (nodes state : List ℕ) (p c q d w : ℕ) (g : StoredTerm nodes state 
             let b : depth nodes q d ≡ suc (cell_of d (get_or nodes q 0)) = depth-variable nodes q d (is-variable z) in
             omega arith
 
-    pub leads-on : {a : At} → a ≡ at_of w → Leads g.ss nodes state g.n p c a.node a.copy
-    leads-on h = subst⁻¹ (λ (a : At). Leads g.ss nodes state g.n p c a.node a.copy) h leads-word
+    pub leads-on : {a : At} → a ≡ at_of w → MeansSame g.ss nodes state g.n p c a.node a.copy
+    leads-on h = subst⁻¹ (λ (a : At). MeansSame g.ss nodes state g.n p c a.node a.copy) h leads-word
 
     pub depth_falls : {a : At} → a ≡ at_of w → depth nodes a.node a.copy < depth nodes q d
     depth_falls h = subst⁻¹ (λ (a : At). depth nodes a.node a.copy < depth nodes q d) h depth-word
 
-  pub leads-end : w ≡ 0 → Derefs g.ss nodes state g.n p c q d
+  pub leads-end : w ≡ 0 → Dereferences g.ss nodes state g.n p c q d
   leads-end z = record { leads = k; stops = λ l. sym (bound-variable nodes state q d l) ∙ (sym e ∙ z) }
 
 -- what `bound_at` asks
@@ -133,7 +133,7 @@ undone-on before after i n s u =
       store = λ ss nodes st. undo-store ss nodes after i (u.store ss nodes st);
     }
   where
-    less : Keeps (suc i) before after → Keeps i before after
+    less : BindingsKept (suc i) before after → BindingsKept i before after
     less k = record { long = k.long; entry = λ j l. k.entry j (omega arith); cell = λ j l. k.cell j (omega arith); others = k.others }
 
 pub undone-next : (before after : List ℕ) (mark i n : ℕ) → mark < i → Stored before n → Undone before after i n → Undone before (set after (trail_at after (i - 1)) 0) (i - 1) n

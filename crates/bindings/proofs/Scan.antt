@@ -8,7 +8,7 @@ use Rattle.machine.proofs.Tests.{either, or_left, or_right, variable-eq, variabl
 use Rattle.machine_theorems.proofs.Terms.{resolve_all, resolve-app, resolve-nil, resolve-cons, occurs-replace}
 use Rattle.run_layout.specs.Regions.{places, cells, trail, store_words, loaded_node}
 use Rattle.run_layout.specs.Nodes.{Symbol, is_symbol, symbol_of, is_listed, name_of_symbol, loaded_words, is_loadable, brackets_of, Node, Row, decoded, term_at, terms_at, followed}
-use Rattle.run_layout.specs.State.{at_of, cell_of, variable_of, word_of, node_of, copy_of, cell_at, trail_at, value_of, bindings, Store, Keeps, bound_words}
+use Rattle.run_layout.specs.State.{at_of, cell_of, variable_of, word_of, node_of, copy_of, cell_at, trail_at, value_of, bindings, Store, BindingsKept, bound_words}
 use Rattle.run_layout.proofs.Nodes.{node-inside, node_end, variable-at, variable-size, compound-at, row_one, row-one-is, row-none, row_first, row-rest, row_cons, row_open, row_opened}
 use Rattle.run_layout.proofs.State.{replace-away, variable-cell, cell-eq, cell-small, copy-small, resolve-bound, resolve-unbound, room, few, agrees, store-agrees, bind-store, bind-keeps, bound-entry, keeps-refl, keeps-trans, keeps-less, no-entries}
 use Rattle.syntax.specs.Terms.{compound, nil, same_bytes}
@@ -65,7 +65,7 @@ module _ (nodes state scratch : List ℕ) (i d m : ℕ) (g : Visitable nodes sta
         let y : ℕ = cell_of d (get_or nodes i 0) in
         let a : m < cells = room mark_symbols mark_table scratch m y g.queued.marked visit-cell z in
         let store : Store mark_symbols mark_table (bound_words scratch m y (word_of 0 0)) (suc m) = bind-store mark_symbols mark_table scratch m y 0 0 g.queued.marked visit-cell z (omega arith) mark-node (λ h. absurd (let k : get_or mark_table 0 0 ≡ first_name = mark-high in omega arith)) (mark-free (variable_of y) (bindings mark_symbols mark_table scratch m)) in
-        let keeps : Keeps m scratch (bound_words scratch m y (word_of 0 0)) = bind-keeps mark_symbols mark_table scratch m y 0 0 g.queued.marked visit-cell z (omega arith) in
+        let keeps : BindingsKept m scratch (bound_words scratch m y (word_of 0 0)) = bind-keeps mark_symbols mark_table scratch m y 0 0 g.queued.marked visit-cell z (omega arith) in
         let last : trail_at (bound_words scratch m y (word_of 0 0)) m ≡ y = bound-entry scratch m y (word_of 0 0) g.queued.marked.long a visit-cell in
         subst⁻¹ (λ (s : List ℕ). Visited nodes state scratch s i d m (m + 1)) e
         (record {
@@ -76,7 +76,7 @@ module _ (nodes state scratch : List ℕ) (i d m : ℕ) (g : Visitable nodes sta
           settled = λ h. inr (m, omega arith, last);
         })
       where
-        bound-at : Keeps m scratch (bound_words scratch m (cell_of d (get_or nodes i 0)) (word_of 0 0)) → trail_at (bound_words scratch m (cell_of d (get_or nodes i 0)) (word_of 0 0)) m ≡ cell_of d (get_or nodes i 0) → (j : ℕ) → j < m + 1 → (t : Bool) → eqb j m ≡ t → cell_at state (trail_at (bound_words scratch m (cell_of d (get_or nodes i 0)) (word_of 0 0)) j) ≡ 0 → ⊥
+        bound-at : BindingsKept m scratch (bound_words scratch m (cell_of d (get_or nodes i 0)) (word_of 0 0)) → trail_at (bound_words scratch m (cell_of d (get_or nodes i 0)) (word_of 0 0)) m ≡ cell_of d (get_or nodes i 0) → (j : ℕ) → j < m + 1 → (t : Bool) → eqb j m ≡ t → cell_at state (trail_at (bound_words scratch m (cell_of d (get_or nodes i 0)) (word_of 0 0)) j) ≡ 0 → ⊥
         bound-at keeps last j l true q h = b (sym (ap (cell_at state) (ap (trail_at (bound_words scratch m (cell_of d (get_or nodes i 0)) (word_of 0 0))) (eqb-true j m q) ∙ last)) ∙ h)
         bound-at keeps last j l false q h = let r : j < m = (let k : j ≡ m → ⊥ = eqb-false j m q in omega (arith, k)) in g.queued.bound j r (sym (ap (cell_at state) (keeps.entry j r)) ∙ h)
 
@@ -190,7 +190,7 @@ module _ {nodes state scratch : List ℕ} {i d m w : ℕ} (g : Visitable nodes s
 
 -- ---- scanning
 
-dealt-on : (state before after : List ℕ) (x n k : ℕ) (v : Variable) → n ≤ k → Keeps n before after → Dealt state before x n v → Dealt state after x k v
+dealt-on : (state before after : List ℕ) (x n k : ℕ) (v : Variable) → n ≤ k → BindingsKept n before after → Dealt state before x n v → Dealt state after x k v
 dealt-on state before after x n k v l keeps d = record { cell = d.cell; is = d.is; small = d.small; other = d.other; settled = go d.settled }
   where
     go : CellDealtWith state before n d.cell → CellDealtWith state after k d.cell
@@ -200,7 +200,7 @@ dealt-on state before after x n k v l keeps d = record { cell = d.cell; is = d.i
 pub record Scanning (ss : List Symbol) (nodes state before after : List ℕ) (q e d x m i n : ℕ) : Type 0 where
   pub row : Row ss nodes i e
   pub grows : m ≤ n
-  pub keeps : Keeps m before after
+  pub keeps : BindingsKept m before after
   pub queued : Queued state after n
   pub new : (j : ℕ) → m ≤ j → j < n → T (occurs (variable_of (trail_at after j)) (term_at ss nodes q d))
   pub inside : (v : Variable) → T (occurs_in v (terms_at ss nodes i e d)) → T (occurs v (term_at ss nodes q d))
@@ -327,7 +327,7 @@ closed-under ss nodes state P (suc n) step t all v h =
 -- ---- looking at a queued cell
 
 module _ (state before after : List ℕ) (n : ℕ) (q : Queued state before n) (h : QueueChanged before after n) where
-  noted-keeps : Keeps n before after
+  noted-keeps : BindingsKept n before after
   noted-keeps = record { long = h.long; entry = h.entry; cell = λ i l. h.cell (trail_at before i) (q.marked.entry i l).cell; others = h.others }
 
   noted-queued : Queued state after n
@@ -393,7 +393,7 @@ module _ (nodes state scratch : List ℕ) (k n : ℕ) (g : Lookable nodes state 
 
         pub look-done : {after : List ℕ} → QueueChanged mid after r.n → Looked g after x r
         look-done {after} h =
-            let keeps : Keeps r.n mid after = noted-keeps state mid after r.n scanned.queued h in
+            let keeps : BindingsKept r.n mid after = noted-keeps state mid after r.n scanned.queued h in
             record {
               grows = scanned.grows;
               keeps = keeps-trans n r.n scratch mid after scanned.grows scanned.keeps keeps;
@@ -408,7 +408,7 @@ module _ (nodes state scratch : List ℕ) (k n : ℕ) (g : Lookable nodes state 
 pub record Searching (ss : List Symbol) (nodes state : List ℕ) (n : ℕ) (before after : List ℕ) (x m k j : ℕ) : Type 0 where
   pub grows : m ≤ j
   pub head : k ≤ j
-  pub keeps : Keeps m before after
+  pub keeps : BindingsKept m before after
   pub queued : Queued state after j
   pub back : (i : ℕ) → i < j → T (occurs (variable_of x) (resolve (bindings ss nodes state n) (var (variable_of (trail_at after i))))) → (h : ℕ) × (h < m) × T (occurs (variable_of x) (resolve (bindings ss nodes state n) (var (variable_of (trail_at before h)))))
   pub clear : (i : ℕ) → i < k → (v : Variable) → T (occurs v (value_of ss nodes (cell_at state (trail_at after i)))) → Dealt state after x j v
@@ -450,7 +450,7 @@ module _ (nodes state before after : List ℕ) (x m k j : ℕ) (g : OccursReady 
       more : m ≤ r.n
       more = let a : m ≤ j = s.grows in let b : j ≤ r.n = looked.grows in omega arith
 
-      kept : Keeps m before later
+      kept : BindingsKept m before later
       kept = keeps-trans m j before after later s.grows s.keeps looked.keeps
 
       pub search-found : r.found ≡ true → Searched g later r

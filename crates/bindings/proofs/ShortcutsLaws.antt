@@ -18,12 +18,12 @@ use Rattle.run_layout.specs.State.{at_of, cell_of, node_of, copy_of, cell_at, bi
 use Rattle.run_layout.proofs.Nodes.{node-inside, variable-at}
 use Rattle.run_layout.proofs.State.{variable-cell, cell-small, copy-small}
 use Rattle.std.specs.Option.{option_or}
-use Rattle.bindings.specs.Cells.{bound_at, Held, Leads}
+use Rattle.bindings.specs.Cells.{bound_at, CellTerm, MeansSame}
 use Rattle.run_layout.specs.declared.terms.At.{At}
 use Rattle.bindings.specs.Scratch.{Roomy}
 use Rattle.bindings.proofs.Deref.{BoundCell, bound-cell-is, bound-variable, bound-name, depth, depth-variable}
 use Rattle.bindings.specs.Cuts.{cuts_made, cut_from, cut_to, cell_means, Cuts, Cut, Cutting}
-use Rattle.bindings.specs.Chains.{Fronted, Followable, LeadsOn, Next, Staged, Further, Strode, Cuttable, Eased, Followed, Both, BothFollowed}
+use Rattle.bindings.specs.Chains.{Fronted, Followable, NextOfChain, Next, Staged, Further, Strode, Cuttable, Eased, Followed, Both, BothFollowed}
 use Rattle.bindings.specs.declared.shortcuts.Stage.{Stage}
 use Rattle.bindings.specs.declared.shortcuts.Ends.{Ends}
 
@@ -161,22 +161,22 @@ some-is (Some a) e z = absurd (cc)
 
 -- ---- where a word leads
 
-pub leads-trans : {ss : List Symbol} {nodes state : List ℕ} {n p c q d q1 d1 : ℕ} → Leads ss nodes state n p c q d → Leads ss nodes state n q d q1 d1 → Leads ss nodes state n p c q1 d1
+pub leads-trans : {ss : List Symbol} {nodes state : List ℕ} {n p c q d q1 d1 : ℕ} → MeansSame ss nodes state n p c q d → MeansSame ss nodes state n q d q1 d1 → MeansSame ss nodes state n p c q1 d1
 leads-trans k m = record { node = m.node; copy = m.copy; means = m.means ∙ k.means; within = λ j w l. m.within j w (k.within j w l) }
 
 -- The word w leads on from the term at p in copy c, to an earlier cell or to a name; where it is 0, nothing does.
 record NextWord (ss : List Symbol) (nodes state : List ℕ) (n p c w : ℕ) : Type 0 where
   stops : w ≡ 0 → get_or nodes p 0 < first_name → cell_at state (cell_of c (get_or nodes p 0)) ≡ 0
   variable : (w ≡ 0 → ⊥) → get_or nodes p 0 < first_name
-  leads : (w ≡ 0 → ⊥) → Leads ss nodes state n p c (node_of w) (copy_of w)
+  leads : (w ≡ 0 → ⊥) → MeansSame ss nodes state n p c (node_of w) (copy_of w)
   down : (w ≡ 0 → ⊥) → get_or nodes (node_of w) 0 < first_name → cell_of (copy_of w) (get_or nodes (node_of w) 0) < cell_of c (get_or nodes p 0)
 
-next-held : {ss : List Symbol} {nodes state : List ℕ} {n p c w : ℕ} → NextWord ss nodes state n p c w → (r : Option At) → Held w r → Next ss nodes state n p c r
+next-held : {ss : List Symbol} {nodes state : List ℕ} {n p c w : ℕ} → NextWord ss nodes state n p c w → (r : Option At) → CellTerm w r → Next ss nodes state n p c r
 next-held k None h = record { stops = λ e. k.stops h; on = λ a e. absurd (cc) }
 next-held {ss} {nodes} {state} {n} {p} {c} {w} k (Some x) h =
     record {
       stops = λ e. absurd (cc);
-      on = λ a e. subst⁻¹ (LeadsOn ss nodes state n p c) (let i : a ≡ at_of w = cc (h.1) in i) (record { variable = k.variable h.0; leads = k.leads h.0; down = k.down h.0 });
+      on = λ a e. subst⁻¹ (NextOfChain ss nodes state n p c) (let i : a ≡ at_of w = cc (h.1) in i) (record { variable = k.variable h.0; leads = k.leads h.0; down = k.down h.0 });
     }
 
 module _ (nodes front : List ℕ) (p c : ℕ) (g : Fronted nodes front p c) where
@@ -189,11 +189,11 @@ module _ (nodes front : List ℕ) (p c : ℕ) (g : Fronted nodes front p c) wher
   pub inside : p < length nodes
   inside = let a : p + loaded_node ≤ length nodes = node-inside g.given.ss nodes p g.given.node in omega arith
 
-  pub leads-here : Leads g.given.ss nodes g.state g.given.n p c p c
+  pub leads-here : MeansSame g.given.ss nodes g.state g.given.n p c p c
   leads-here = record { node = g.given.node; copy = g.given.copy; means = refl; within = λ k w l. l }
 
   -- another term of the store
-  abbrev pub front_at : {q d : ℕ} → Leads g.given.ss nodes g.state g.given.n p c q d → Fronted nodes front q d
+  abbrev pub front_at : {q d : ℕ} → MeansSame g.given.ss nodes g.state g.given.n p c q d → Fronted nodes front q d
   front_at k = record { state = g.state; given = record { ss = g.given.ss; n = g.given.n; store = g.given.store; node = k.node; copy = k.copy }; long = g.long; same = g.same }
 
   module _ {v : ℕ} (ev : v ≡ get_or nodes p 0) where
@@ -227,9 +227,9 @@ module _ (nodes front : List ℕ) (p c : ℕ) (g : Fronted nodes front p c) wher
         cell : BoundCell ss nodes g.state g.given.n y
         cell = bound-cell-is ss nodes g.state g.given.n y g.given.store small-y (λ h. some (ew ∙ h))
 
-        via-leads : Leads ss nodes g.state g.given.n p c (node_of w) (copy_of w)
+        via-leads : MeansSame ss nodes g.state g.given.n p c (node_of w) (copy_of w)
         via-leads =
-            subst⁻¹ (λ (u : ℕ). Leads ss nodes g.state g.given.n p c (node_of u) (copy_of u)) ew
+            subst⁻¹ (λ (u : ℕ). MeansSame ss nodes g.state g.given.n p c (node_of u) (copy_of u)) ew
             (record { node = cell.node; copy = copy-small (cell_at g.state y); means = cell.means ∙ (sym same ∙ term_is); within = λ j h q. cell.within j h })
 
         via-down : get_or nodes (node_of w) 0 < first_name → cell_of (copy_of w) (get_or nodes (node_of w) 0) < cell_of c (get_or nodes p 0)
@@ -240,24 +240,24 @@ module _ (nodes front : List ℕ) (p c : ℕ) (g : Fronted nodes front p c) wher
       next-plain-word : {w : ℕ} → w ≡ get_or front x 0 → NextWord g.given.ss nodes g.state g.given.n p c w
       next-plain-word {w} ew = record { stops = λ e h. sym (ap (cell_at g.state) cell-here) ∙ (sym (g.same x next-cell) ∙ (sym ew ∙ e)); variable = λ z. low-here; leads = λ z. via-leads refl (omega arith) ew z; down = λ z. via-down refl (omega arith) ew z }
 
-      pub next-plain : {w : ℕ} → w ≡ get_or front x 0 → (r : Option At) → Held w r → Next g.given.ss nodes g.state g.given.n p c r
+      pub next-plain : {w : ℕ} → w ≡ get_or front x 0 → (r : Option At) → CellTerm w r → Next g.given.ss nodes g.state g.given.n p c r
       next-plain e r h = next-held (next-plain-word e) r h
 
-      pub next-cut : {scratch : List ℕ} {y w : ℕ} → Cuts b scratch → Cut scratch x y → y < x → w ≡ get_or front y 0 → (w ≡ 0 → ⊥) → (r : Option At) → Held w r → Next g.given.ss nodes g.state g.given.n p c r
+      pub next-cut : {scratch : List ℕ} {y w : ℕ} → Cuts b scratch → Cut scratch x y → y < x → w ≡ get_or front y 0 → (w ≡ 0 → ⊥) → (r : Option At) → CellTerm w r → Next g.given.ss nodes g.state g.given.n p c r
       next-cut {scratch} {y} {w} t k le ef some r h =
           let same : cell_means b x ≡ cell_means b y = k.is b t in
           next-held (record { stops = λ e. absurd (some e); variable = λ z. low-here; leads = λ z. via-leads same (omega (arith, le)) ef z; down = λ z. via-down same (omega (arith, le)) ef z }) r h
 
       -- by the cut where the cell that it leads to is bound, else by the variable's own cell
-      pub next-or : {scratch : List ℕ} {y u w : ℕ} → Cuts b scratch → Cut scratch x y → y < x → u ≡ get_or front y 0 → w ≡ get_or front x 0 → (r s : Option At) → Held u r → Held w s → Next g.given.ss nodes g.state g.given.n p c (option_or r s)
+      pub next-or : {scratch : List ℕ} {y u w : ℕ} → Cuts b scratch → Cut scratch x y → y < x → u ≡ get_or front y 0 → w ≡ get_or front x 0 → (r s : Option At) → CellTerm u r → CellTerm w s → Next g.given.ss nodes g.state g.given.n p c (option_or r s)
       next-or t k le eu _ (Some a) s h j = next-cut t k le eu h.0 (Some a) h
       next-or t k le eu ew None s h j = next-plain ew s j
 
   -- the term that the variable itself is bound to
-  pub next-bound : (r : Option At) → Held (bound_at nodes front p c) r → Next g.given.ss nodes g.state g.given.n p c r
+  pub next-bound : (r : Option At) → CellTerm (bound_at nodes front p c) r → Next g.given.ss nodes g.state g.given.n p c r
   next-bound r e = go (ltb (get_or nodes p 0) first_name) refl
     where
-      nothing : first_name ≤ get_or nodes p 0 → (o : Option At) → Held (bound_at nodes front p c) o → Next g.given.ss nodes g.state g.given.n p c o
+      nothing : first_name ≤ get_or nodes p 0 → (o : Option At) → CellTerm (bound_at nodes front p c) o → Next g.given.ss nodes g.state g.given.n p c o
       nothing l None h = next-name refl l
       nothing l (Some a) h = absurd (h.0 (bound-name nodes front p c l))
 
@@ -278,11 +278,11 @@ on-variable (Some a) k z = (k.on a refl).variable
 
 module _ (nodes front : List ℕ) (p c : ℕ) (g : Fronted nodes front p c) where
   -- a next term, or none
-  pub lead-here : (r : Option At) → Held (bound_at nodes front p c) r → Staged g.given.ss nodes g.state g.given.n p c (record { at = record { node = p; copy = c }; next = r })
+  pub lead-here : (r : Option At) → CellTerm (bound_at nodes front p c) r → Staged g.given.ss nodes g.state g.given.n p c (record { at = record { node = p; copy = c }; next = r })
   lead-here r e = record { leads = leads-here nodes front p c g; stops = (next-bound nodes front p c g r e).stops }
 
-  module _ {a : At} (e : Held (bound_at nodes front p c) (Some a)) where
-    pub lead-leads : Leads g.given.ss nodes g.state g.given.n p c a.node a.copy
+  module _ {a : At} (e : CellTerm (bound_at nodes front p c) (Some a)) where
+    pub lead-leads : MeansSame g.given.ss nodes g.state g.given.n p c a.node a.copy
     lead-leads = ((next-bound nodes front p c g (Some a) e).on a refl).leads
 
     abbrev pub lead-on : Fronted nodes front a.node a.copy
@@ -297,12 +297,12 @@ module _ (nodes front : List ℕ) (p c : ℕ) (g : Fronted nodes front p c) wher
 
 module _ (nodes front scratch : List ℕ) (p c : ℕ) (g : Followable nodes front scratch p c) where
   -- another term that it leads to
-  abbrev pub follow-at : {q d : ℕ} → Leads g.from.given.ss nodes g.from.state g.from.given.n p c q d → Followable nodes front scratch q d
+  abbrev pub follow-at : {q d : ℕ} → MeansSame g.from.given.ss nodes g.from.state g.from.given.n p c q d → Followable nodes front scratch q d
   follow-at k = record { from = front_at nodes front p c g.from k; roomy = g.roomy; cuts = g.cuts }
 
 -- k links and cuts on; the cell of a variable is lower by as many at least
 pub record Striding (ss : List Symbol) (nodes state : List ℕ) (n p c k : ℕ) (a : At) (r : Option At) : Type 0 where
-  pub leads : Leads ss nodes state n p c a.node a.copy
+  pub leads : MeansSame ss nodes state n p c a.node a.copy
   pub next : Next ss nodes state n a.node a.copy r
   pub from : get_or nodes a.node 0 < first_name → get_or nodes p 0 < first_name
   pub down : get_or nodes a.node 0 < first_name → cell_of a.copy (get_or nodes a.node 0) + k ≤ cell_of c (get_or nodes p 0)
@@ -326,7 +326,7 @@ module _ (nodes front scratch : List ℕ) (p c : ℕ) (g : Followable nodes fron
         }
 
     module _ {a : At} (e : r ≡ Some a) where
-      pub leads-on : LeadsOn g.from.given.ss nodes g.from.state g.from.given.n q.node q.copy a
+      pub leads-on : NextOfChain g.from.given.ss nodes g.from.state g.from.given.n q.node q.copy a
       leads-on = s.next.on a e
 
       abbrev pub stride-follow : Followable nodes front scratch a.node a.copy
@@ -345,7 +345,7 @@ module _ (nodes front scratch : List ℕ) (p c : ℕ) (g : Followable nodes fron
 -- ---- a walk
 
 pub record Walking (ss : List Symbol) (nodes state : List ℕ) (n : ℕ) (before after : List ℕ) (p c q d : ℕ) : Type 0 where
-  pub leads : Leads ss nodes state n p c q d
+  pub leads : MeansSame ss nodes state n p c q d
   pub eased : Eased (bindings ss nodes state n) before after
 
 module _ (nodes front before : List ℕ) (p c : ℕ) (g : Followable nodes front before p c) where
@@ -390,13 +390,13 @@ module _ (nodes front before : List ℕ) (p c : ℕ) (g : Followable nodes front
             omega arith
 
         -- a variable of the store is that of its cell
-        variable-is : {i e : ℕ} → Leads g.from.given.ss nodes g.from.state g.from.given.n p c i e → get_or nodes i 0 < first_name
+        variable-is : {i e : ℕ} → MeansSame g.from.given.ss nodes g.from.state g.from.given.n p c i e → get_or nodes i 0 < first_name
             → cell_means (bindings g.from.given.ss nodes g.from.state g.from.given.n) (cell_of e (get_or nodes i 0)) ≡ resolve (bindings g.from.given.ss nodes g.from.state g.from.given.n) (term_at g.from.given.ss nodes i e)
         variable-is {i} {e} k l = term_is nodes front i e (front_at nodes front p c g.from k) refl l refl
 
         pub walk-next : {later : List ℕ} → Cutting after later (cell_of d (get_or nodes q 0)) (cell_of r.at.copy (get_or nodes r.at.node 0)) → Walking g.from.given.ss nodes g.from.state g.from.given.n before later p c r.at.node r.at.copy
         walk-next k =
-            let t : Leads g.from.given.ss nodes g.from.state g.from.given.n p c r.at.node r.at.copy = leads-trans s.leads strode.staged.leads in
+            let t : MeansSame g.from.given.ss nodes g.from.state g.from.given.n p c r.at.node r.at.copy = leads-trans s.leads strode.staged.leads in
             record {
               leads = t;
               eased = eased-trans s.eased
@@ -435,14 +435,14 @@ module _ {nodes state before : List ℕ} {p q : At} (g : Both nodes state before
   abbrev pub both_right : Fronted nodes state q.node q.copy
   both_right = right-from g
 
-  pub both-here : Leads g.left.from.given.ss nodes g.left.from.state g.left.from.given.n q.node q.copy q.node q.copy
+  pub both-here : MeansSame g.left.from.given.ss nodes g.left.from.state g.left.from.given.n q.node q.copy q.node q.copy
   both-here = leads-here nodes state q.node q.copy both_right
 
-  pub both_left : Leads g.left.from.given.ss nodes g.left.from.state g.left.from.given.n p.node p.copy p.node p.copy
+  pub both_left : MeansSame g.left.from.given.ss nodes g.left.from.state g.left.from.given.n p.node p.copy p.node p.copy
   both_left = leads-here nodes state p.node p.copy g.left.from
 
   -- both further on, with the words of the cells only
-  module _ {front : List ℕ} (long : cells ≤ length front) (same : (x : ℕ) → x < cells → get_or front x 0 ≡ get_or state x 0) {p1 q1 : At} (a : Leads g.left.from.given.ss nodes g.left.from.state g.left.from.given.n p.node p.copy p1.node p1.copy) (a1 : Leads g.left.from.given.ss nodes g.left.from.state g.left.from.given.n q.node q.copy q1.node q1.copy) where
+  module _ {front : List ℕ} (long : cells ≤ length front) (same : (x : ℕ) → x < cells → get_or front x 0 ≡ get_or state x 0) {p1 q1 : At} (a : MeansSame g.left.from.given.ss nodes g.left.from.state g.left.from.given.n p.node p.copy p1.node p1.copy) (a1 : MeansSame g.left.from.given.ss nodes g.left.from.state g.left.from.given.n q.node q.copy q1.node q1.copy) where
     abbrev pub both-far : Both nodes front before p1 q1
     both-far =
         record {

@@ -5,13 +5,13 @@ use Rattle.syntax.specs.Words.{first_name}
 use Rattle.machine.specs.Substitution.{resolve}
 use Rattle.run_layout.specs.Regions.{copies}
 use Rattle.run_layout.specs.Nodes.{Symbol, Node, term_at}
-use Rattle.run_layout.specs.State.{cell_of, at_of, cell_at, bindings, Store, Within, Keeps}
+use Rattle.run_layout.specs.State.{cell_of, at_of, cell_at, bindings, Store, WithinCopies, BindingsKept}
 use Rattle.run_layout.specs.declared.terms.At.{At}
 
 -- the run-time term of a cell's word, or none for the word 0
-abbrev pub Held : ℕ → Option At → Type 0
-Held w None = w ≡ 0
-Held w (Some a) = (w ≡ 0 → ⊥) × (a ≡ at_of w)
+abbrev pub CellTerm : ℕ → Option At → Type 0
+CellTerm w None = w ≡ 0
+CellTerm w (Some a) = (w ≡ 0 → ⊥) × (a ≡ at_of w)
 
 -- the word of the cell of the variable at a place; 0 where a name stands there
 unfoldable pub bound_at : List ℕ → List ℕ → ℕ → ℕ → ℕ
@@ -26,15 +26,15 @@ pub record StoredTerm (nodes state : List ℕ) (p c : ℕ) : Type 0 where
   pub copy : c < copies
 
 -- One run-time term leads to another: with the bindings put in they are the same.
-pub record Leads (ss : List Symbol) (nodes state : List ℕ) (n p c q d : ℕ) : Type 0 where
+pub record MeansSame (ss : List Symbol) (nodes state : List ℕ) (n p c q d : ℕ) : Type 0 where
   pub node : Node ss nodes q
   pub copy : d < copies
   pub means : resolve (bindings ss nodes state n) (term_at ss nodes q d) ≡ resolve (bindings ss nodes state n) (term_at ss nodes p c)
-  pub within : (k : ℕ) → Within k state n → c ≤ k → d ≤ k
+  pub within : (k : ℕ) → WithinCopies k state n → c ≤ k → d ≤ k
 
 -- It leads to a name or to an unbound variable.
-pub record Derefs (ss : List Symbol) (nodes state : List ℕ) (n p c q d : ℕ) : Type 0 where
-  pub leads : Leads ss nodes state n p c q d
+pub record Dereferences (ss : List Symbol) (nodes state : List ℕ) (n p c q d : ℕ) : Type 0 where
+  pub leads : MeansSame ss nodes state n p c q d
   pub stops : slice_index_or nodes q 0 < first_name → cell_at state (cell_of d (slice_index nodes q)) ≡ 0
 
 -- A store of n entries, for some symbols and some table.
@@ -45,5 +45,5 @@ pub record Stored (state : List ℕ) (n : ℕ) : Type 0 where
 
 -- Entries from a mark on undone: what was a store is one of so many entries.
 pub record Undone (before after : List ℕ) (mark n : ℕ) : Type 0 where
-  pub keeps : Keeps mark before after
+  pub keeps : BindingsKept mark before after
   pub store : (ss : List Symbol) (nodes : List ℕ) → Store ss nodes before n → Store ss nodes after mark

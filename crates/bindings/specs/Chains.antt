@@ -6,7 +6,7 @@ use Rattle.run_layout.specs.Regions.{copies, cells}
 use Rattle.run_layout.specs.Nodes.{Symbol, Node}
 use Rattle.run_layout.specs.State.{cell_of, cell_at, bindings}
 use Rattle.run_layout.specs.declared.terms.At.{At}
-use Rattle.bindings.specs.Cells.{StoredTerm, Leads, Derefs}
+use Rattle.bindings.specs.Cells.{StoredTerm, MeansSame, Dereferences}
 use Rattle.bindings.specs.Scratch.{Roomy}
 use Rattle.bindings.specs.Cuts.{Cuts, CutsOnly}
 use Rattle.bindings.specs.declared.shortcuts.Stage.{Stage}
@@ -30,19 +30,19 @@ pub record Followable (nodes front scratch : List ℕ) (p c : ℕ) : Type 0 wher
   pub cuts : Cuts (bindings from.given.ss nodes from.state from.given.n) scratch
 
 -- The variable at p in copy c leads on to a term, that of an earlier cell or a name.
-pub record LeadsOn (ss : List Symbol) (nodes state : List ℕ) (n p c : ℕ) (a : At) : Type 0 where
+pub record NextOfChain (ss : List Symbol) (nodes state : List ℕ) (n p c : ℕ) (a : At) : Type 0 where
   pub variable : get_or nodes p 0 < first_name
-  pub leads : Leads ss nodes state n p c a.node a.copy
+  pub leads : MeansSame ss nodes state n p c a.node a.copy
   pub down : get_or nodes a.node 0 < first_name → cell_of a.copy (get_or nodes a.node 0) < cell_of c (get_or nodes p 0)
 
 -- Where the term at p in copy c leads on to; where that is nowhere, it is a name or an unbound variable.
 pub record Next (ss : List Symbol) (nodes state : List ℕ) (n p c : ℕ) (r : Option At) : Type 0 where
   pub stops : r ≡ None → get_or nodes p 0 < first_name → cell_at state (cell_of c (get_or nodes p 0)) ≡ 0
-  pub on : (a : At) → r ≡ Some a → LeadsOn ss nodes state n p c a
+  pub on : (a : At) → r ≡ Some a → NextOfChain ss nodes state n p c a
 
 -- A walk from the term at p in copy c has come to another; where there is no next term, nothing leads on.
 pub record Staged (ss : List Symbol) (nodes state : List ℕ) (n p c : ℕ) (r : Stage) : Type 0 where
-  pub leads : Leads ss nodes state n p c r.at.node r.at.copy
+  pub leads : MeansSame ss nodes state n p c r.at.node r.at.copy
   pub stops : r.next ≡ None → get_or nodes r.at.node 0 < first_name → cell_at state (cell_of r.at.copy (get_or nodes r.at.node 0)) ≡ 0
 
 -- Two variables, the second of an earlier cell.
@@ -73,7 +73,7 @@ pub record Eased (b : List Binding) (before after : List ℕ) : Type 0 where
 
 -- The term is dereferenced, and only cuts changed.
 pub record Followed {nodes front before : List ℕ} {p c : ℕ} (g : Followable nodes front before p c) (after : List ℕ) (r : At) : Type 0 where
-  pub derefs : Derefs g.from.given.ss nodes g.from.state g.from.given.n p c r.node r.copy
+  pub derefs : Dereferences g.from.given.ss nodes g.from.state g.from.given.n p c r.node r.copy
   pub eased : Eased (bindings g.from.given.ss nodes g.from.state g.from.given.n) before after
 
 -- Two run-time terms in one store, and cuts that are right.
@@ -84,6 +84,6 @@ pub record Both (nodes front scratch : List ℕ) (p q : At) : Type 0 where
 
 -- Both are dereferenced, and only cuts changed.
 pub record BothFollowed {nodes front before : List ℕ} {p q : At} (g : Both nodes front before p q) (after : List ℕ) (r : Ends) : Type 0 where
-  pub left : Derefs g.left.from.given.ss nodes g.left.from.state g.left.from.given.n p.node p.copy r.left.node r.left.copy
-  pub right : Derefs g.left.from.given.ss nodes g.left.from.state g.left.from.given.n q.node q.copy r.right.node r.right.copy
+  pub left : Dereferences g.left.from.given.ss nodes g.left.from.state g.left.from.given.n p.node p.copy r.left.node r.left.copy
+  pub right : Dereferences g.left.from.given.ss nodes g.left.from.state g.left.from.given.n q.node q.copy r.right.node r.right.copy
   pub eased : Eased (bindings g.left.from.given.ss nodes g.left.from.state g.left.from.given.n) before after

@@ -5,7 +5,7 @@ use Rattle.syntax.specs.Words.{first_name}
 use Rattle.machine.specs.Substitution.{Variable, var, occurs, resolve}
 use Rattle.run_layout.specs.Regions.{copies, copy_cells, cells, store_words, loaded_node}
 use Rattle.run_layout.specs.Nodes.{Symbol, Node, term_at}
-use Rattle.run_layout.specs.State.{cell_of, variable_of, copy_of, cell_at, trail_at, value_of, bindings, Store, Keeps}
+use Rattle.run_layout.specs.State.{cell_of, variable_of, copy_of, cell_at, trail_at, value_of, bindings, Store, BindingsKept}
 use Rattle.bindings.specs.declared.occurrence.Queue.{Queue}
 
 unfoldable pub mark_symbols : List Symbol
@@ -42,7 +42,7 @@ CellDealtWith state scratch n y = (cell_at state y ≡ 0) ⊎ ((j : ℕ) × (j <
 
 pub record Visited (nodes state before after : List ℕ) (i d m n : ℕ) : Type 0 where
   pub grows : m ≤ n
-  pub keeps : Keeps m before after
+  pub keeps : BindingsKept m before after
   pub queued : Queued state after n
   pub new : (j : ℕ) → m ≤ j → j < n → (slice_index nodes i < first_name) × (trail_at after j ≡ cell_of d (slice_index nodes i))
   pub settled : slice_index_or nodes i 0 < first_name → CellDealtWith state after n (cell_of d (slice_index nodes i))
@@ -67,7 +67,7 @@ pub record Dealt (state scratch : List ℕ) (x n : ℕ) (v : Variable) : Type 0 
 -- What was queued stands in the term; cell x was found there, or each variable of the term is dealt with.
 pub record TermScanned {nodes state before : List ℕ} {q d m : ℕ} (g : Scannable nodes state before q d m) (after : List ℕ) (x : ℕ) (r : Queue) : Type 0 where
   pub grows : m ≤ r.n
-  pub keeps : Keeps m before after
+  pub keeps : BindingsKept m before after
   pub queued : Queued state after r.n
   pub new : (j : ℕ) → m ≤ j → j < r.n → T (occurs (variable_of (trail_at after j)) (term_at g.ss nodes q d))
   pub found : r.found ≡ true → T (occurs (variable_of x) (term_at g.ss nodes q d))
@@ -99,7 +99,7 @@ pub record Lookable (nodes state scratch : List ℕ) (k n : ℕ) : Type 0 where
 -- an earlier cell.
 pub record Looked {nodes state before : List ℕ} {k n : ℕ} (g : Lookable nodes state before k n) (after : List ℕ) (x : ℕ) (r : Queue) : Type 0 where
   pub grows : n ≤ r.n
-  pub keeps : Keeps n before after
+  pub keeps : BindingsKept n before after
   pub queued : Queued state after r.n
   pub new : (j : ℕ) → n ≤ j → j < r.n → T (occurs (variable_of (trail_at after j)) (value_of g.ss nodes (cell_at state (trail_at before k))))
   pub found : r.found ≡ true → T (occurs (variable_of x) (value_of g.ss nodes (cell_at state (trail_at before k))))
@@ -119,7 +119,7 @@ pub record OccursReady (nodes state scratch : List ℕ) (x m : ℕ) : Type 0 whe
 -- Cell x was found below one of the first m cells, or each variable in the terms of the queued cells is dealt with.
 pub record Searched {nodes state before : List ℕ} {x m : ℕ} (g : OccursReady nodes state before x m) (after : List ℕ) (r : Queue) : Type 0 where
   pub grows : m ≤ r.n
-  pub keeps : Keeps m before after
+  pub keeps : BindingsKept m before after
   pub queued : Queued state after r.n
   pub found : r.found ≡ true → (i : ℕ) × (i < m) × T (occurs (variable_of x) (resolve (bindings g.ss nodes state g.n) (var (variable_of (trail_at before i)))))
   pub clear : r.found ≡ false → (i : ℕ) → i < r.n → (v : Variable) → T (occurs v (value_of g.ss nodes (cell_at state (trail_at after i))))
@@ -141,7 +141,7 @@ pub record Checkable (nodes state scratch : List ℕ) (x q d : ℕ) : Type 0 whe
 pub record OccursChecked {nodes state before : List ℕ} {x q d : ℕ} (g : Checkable nodes state before x q d) (after : List ℕ) (r : Bool) : Type 0 where
   pub answer : r ≡ occurs (variable_of x) (resolve (bindings g.ss nodes state g.n) (term_at g.ss nodes q d))
   pub clean : Clean after
-  pub keeps : Keeps 0 before after
+  pub keeps : BindingsKept 0 before after
 
 -- The cells of copies below k are bound to terms of such copies. So no variable of another copy stands in a term of these, whatever is put in.
 pub record Closed (k : ℕ) (state : List ℕ) : Type 0 where

@@ -3,7 +3,7 @@
 // half a word for each of its copies: the number of that term's class, or 0. A slot, chosen by the node's place, says which row is the node's. Slots
 // are never cleared: a row names its node, and the name is compared. A row is cleared when it is taken, and a call begins with no rows.
 // Of two terms that become equal one was reached by way of a bound cell, so there are no more new numbers than bound cells; and scratch words that have
-// a row for each node have room for every term. The library allocates nothing: all this is a table of words that is lent, and no Vec, Box or map.
+// a row for each node have room for every term.
 
 ghost use Rattle.std.specs.Prelude.{IfSome, ◌≡◌, true, ◌+◌, ◌*◌, ◌/◌, ◌%◌, ◌-◌, ◌≤◌, ◌<◌, ◌^◌, length, get_or, set};
 ghost use Rattle.run_layout.specs.Halves.{stored};
@@ -37,7 +37,7 @@ const RANKS: usize = 100;
 // A term's word and this, divided by the number of copies, is the same for every copy of the node.
 const SHIFT: usize = COPIES - 1;
 
-// No classes, and no short cuts.
+/// Forgets all classes and all short cuts.
 pub fn forget(scratch: &mut [u32])
     requires { memo < length scratch.old }
     ensures { scratch.new ≡ set (set scratch.old memo 0) cuts_word 0 }
@@ -86,8 +86,7 @@ fn number_of(scratch: &[u32], term: usize) -> Option<usize>
     }
 }
 
-// The link of number i: 0; or another number of its class, and 1; or, above CLASS_COUNT, its rank. It is a word of the table, so no enum: 0 and ranks are
-// compared as one number (`join`), and tested in one line (`root_of`).
+// The link of number i: 0; or another number of its class, and 1; or, above CLASS_COUNT, its rank. 0 and ranks are compared as numbers in `join`.
 fn link_at(scratch: &[u32], i: usize) -> usize
     requires { (Roomy scratch.now) × (i < class_count) }
     ensures { result ≡ link_of scratch.now i }
@@ -113,7 +112,7 @@ fn root_of(scratch: &[u32], i: usize) -> usize
     r
 }
 
-// Whether the two terms are known to be equal.
+/// Whether the two terms, given by their words, are known to be equal.
 pub fn known(scratch: &[u32], left: usize, right: usize) -> bool
     requires { (Roomy scratch.now) × TermWords left right }
     ensures { result ≡ true → KnownEqual scratch.now left right }
@@ -389,8 +388,8 @@ fn keep(scratch: &mut [u32], h: usize, weight: usize, left: usize, right: usize)
     enter(scratch, left, right);
 }
 
-// The two terms, a pair at height h of the stack whose left term has so many words, are known to be equal from now on, unless this can be found again in a
-// few turns.
+/// Remembers that two terms, given by their words, are equal, unless this can be found again in a few turns. They are a pair at height h of the stack, and the
+/// left term has so many words.
 pub fn remember(scratch: &mut [u32], h: usize, size: usize, left: usize, right: usize)
     requires { (Roomy scratch.old) × TermWords left right }
     ensures { Remembers scratch.old scratch.new left right }

@@ -10,7 +10,7 @@ use run_layout::terms::{At, unpack};
 use run_layout::{CELLS, COPIES, LOADED_NODE, TRAIL, cell_copy, cell_of};
 use std::num::wrapping_add_usize;
 use syntax::FIRST_NAME;
-use words::tables::word_at;
+use words::tables::{size_at, word_at};
 
 // The slots of words are the second half of the queue.
 const QUEUE_SLOTS: usize = CELLS / 2;
@@ -24,7 +24,7 @@ const MARKED: At = At { node: 0, copy: 0 };
 // How far apart the slots of a node's copies are; odd, so that no two of them are the same.
 const SPREAD: usize = 97;
 
-// Whether a cell was found, how many are queued, and how many words were looked at. All three are told in either case, so an Option would spare no field.
+/// How far a search has come: whether the cell was found, how many cells are queued, and how many words were looked at.
 #[derive(Clone, Copy)]
 pub struct Queue {
     pub found: bool,
@@ -32,19 +32,11 @@ pub struct Queue {
     pub cost: usize,
 }
 
-// Whether a variable stands in a term, and how many words were looked at, which is told in either case: an Option would spare no field.
+/// Whether a variable stands in a term, and how many words were looked at.
 #[derive(Clone, Copy)]
 pub struct Occurrence {
     pub found: bool,
     pub cost: usize,
-}
-
-// How many words the node at p takes with its arguments.
-pub fn size_at(nodes: &[u32], p: usize) -> usize
-    requires { p + 1 < length nodes.now }
-    ensures { result ≡ slice_index nodes.now (p + 1) }
-{
-    word_at(nodes, p + 1)
 }
 
 // Whether the variable of cell x stands at a place, in a copy.
@@ -85,8 +77,7 @@ fn scan(nodes: &[u32], state: &[u32], scratch: &mut [u32], at: At, x: usize, m: 
     let e = at.node + cost;
     let mut i = at.node;
     let mut n = m;
-    // No `for`, for speed: the bar is that no program of bench/ gets slower than at commit 3e725cc8, where this function took 201,184 instructions of "towers"
-    // by callgrind, in a build with checks. It takes 201,350 so, and 260,706 by `for` over `(at.node..e).step_by(LOADED_NODE)`, 1.1 % of "towers" more.
+    // A `while`, since the speed of the occurs check is decided here.
     while i < e {
         let here = At { node: i, ..at };
         if is_cell(nodes, here, x) {
@@ -168,7 +159,7 @@ fn search(nodes: &[u32], state: &[u32], scratch: &mut [u32], x: usize, m: usize)
     let mut k = 0;
     let mut n = m;
     let mut cost = 0;
-    // A `for` fixes its end when it begins, and this queue grows meanwhile.
+    // The queue grows meanwhile.
     while k < n {
         let r = look(nodes, state, scratch, x, k, n);
         if r.found {
@@ -185,7 +176,7 @@ fn search(nodes: &[u32], state: &[u32], scratch: &mut [u32], x: usize, m: usize)
     }
 }
 
-// Whether the unbound variable of cell x stands in a term, with the bindings put in.
+/// Whether the unbound variable of cell x stands in a term, with the bindings put in.
 pub fn occurs(nodes: &[u32], state: &[u32], scratch: &mut [u32], x: usize, at: At) -> Occurrence
     requires { Checkable nodes.now state.now scratch.old x at.node at.copy }
     ensures { (g : Checkable nodes.now state.now scratch.old x at.node at.copy) → OccursChecked g scratch.new result.found }
@@ -234,8 +225,8 @@ fn is_other(nodes: &[u32], state: &[u32], x: usize, at: At) -> bool
     word_at(state, y) == 0 && y != x
 }
 
-// Whether it is plain that the variable of cell x does not stand in a term, where the copies below k are closed: a variable of another copy does not stand in
-// a term of these, and none in a constant or in another unbound variable.
+/// Whether it is plain that the variable of cell x does not stand in a term, where the copies below k are closed: a variable of another copy does not stand in
+/// a term of these, and none in a constant or in another unbound variable.
 pub fn is_plain(nodes: &[u32], state: &[u32], x: usize, at: At, k: usize) -> bool
     requires { (at.node + 1 < length nodes.now) × ((cells ≤ length state.now) × (at.copy < copies)) }
     ensures { result ≡ true → Plain nodes.now state.now x at.node at.copy k }
@@ -243,7 +234,7 @@ pub fn is_plain(nodes: &[u32], state: &[u32], x: usize, at: At, k: usize) -> boo
     apart(x, at.copy, k) || is_constant(nodes, at.node) || is_other(nodes, state, x, at)
 }
 
-// How many copies are closed when cell x is bound to a term of copy d: the k that are so now, or 0, which is a number of copies here and no sign.
+/// How many copies are closed once cell x is bound to a term of copy d: the k that are so now, or no copies, 0.
 pub fn closed_to(x: usize, d: usize, k: usize) -> usize
     ensures { Closing k x d result }
 {

@@ -1,6 +1,6 @@
 // A topological order of cells, in the scratch words: a list in which each bound cell comes behind all variables of the term that it is bound to. A
 // variable may be bound without a search for it, where all variables of the term stand before it in the list. Any cells in any sequence may be proposed for
-// the list: each is looked at before it gets a place. The library allocates nothing: list, places and bounds are words that are lent, and no Vec or map.
+// the list: each is looked at before it gets a place.
 
 ghost use Rattle.std.specs.Prelude.{IfSome, ◌≡◌, ◌+◌, ◌≤◌, ◌<◌, ◌^◌, length, set};
 ghost use Rattle.run_layout.specs.Regions.{copies, cells, order_word, bounds_word};
@@ -10,14 +10,13 @@ ghost use Rattle.bindings.specs.Orders.{ordered, appended, CellsListed, PlaceOrN
 ghost use Rattle.bindings.specs.Orders.{Freed, Dropped};
 ghost use Rattle.bindings.specs.Orders.{Orderable, Arranged, Extensible, MayComeNext};
 
-use crate::occurrence::size_at;
 use run_layout::terms::{At, pack, unpack};
 use run_layout::{
     BOUND_COUNT, BOUND_LIST, BOUND_SIZE, BOUND_SLOTS, BOUNDS_WORD, CELLS, LOADED_NODE, ORDER,
     ORDER_PLACES, ORDER_WORD, cell_of,
 };
 use syntax::FIRST_NAME;
-use words::tables::{put, word_at};
+use words::tables::{put, size_at, word_at};
 
 // Only the first n cells of the list stay, and no bounds.
 fn truncate(scratch: &mut [u32], n: usize)
@@ -28,7 +27,7 @@ fn truncate(scratch: &mut [u32], n: usize)
     scratch[BOUNDS_WORD] = 0;
 }
 
-// No cell has a place.
+/// Forgets the order: no cell has a place.
 pub fn forget_order(scratch: &mut [u32])
     requires { Roomy scratch.old }
     ensures { scratch.new ≡ set (set scratch.old order_word 0) bounds_word 0 }
@@ -36,8 +35,7 @@ pub fn forget_order(scratch: &mut [u32])
     truncate(scratch, 0);
 }
 
-// The place of cell x in the list, or the list's length where it has none. (No Option: `is_free`, asked at every binding, says by one comparison that the
-// place is behind a bound or that there is none.)
+// The place of cell x in the list, or the list's length where it has none: so one comparison tells whether it is behind a bound or has none.
 fn place_of(scratch: &[u32], x: usize) -> usize
     requires { (Roomy scratch.now) × ((CellsListed scratch.now) × (x < cells)) }
     ensures { PlaceOrNone scratch.now x result }
@@ -137,7 +135,7 @@ fn bound_of(nodes: &[u32], scratch: &mut [u32], at: At) -> Option<usize>
     Some(r)
 }
 
-// Whether the list shows that the variable of cell x does not stand in a term with the bindings put in.
+/// Whether the list shows that the variable of cell x does not stand in a term with the bindings put in.
 pub fn is_free(nodes: &[u32], scratch: &mut [u32], x: usize, at: At) -> bool
     requires boundable { Boundable nodes.now scratch.old at.node at.copy }
     requires x_lt_cells { x < cells }
@@ -201,7 +199,7 @@ fn admit(nodes: &[u32], state: &[u32], scratch: &mut [u32], x: usize)
     append(scratch, x);
 }
 
-// A list of those of the n words from a place on that are cells and may come next, one after the other.
+/// Makes the order anew, of those of the n scratch words from a place on that are cells and may come next, one after the other.
 pub fn order_cells(nodes: &[u32], state: &[u32], scratch: &mut [u32], from: usize, n: usize)
     requires { Orderable nodes.now state.now scratch.old }
     ensures { (g : Orderable nodes.now state.now scratch.old)
@@ -215,7 +213,7 @@ pub fn order_cells(nodes: &[u32], state: &[u32], scratch: &mut [u32], from: usiz
     }
 }
 
-// The list up to cell x, where it has a place.
+/// Cuts the list at cell x, where it has a place: the cell and those behind it have none from then on.
 pub fn drop_from(scratch: &mut [u32], x: usize)
     requires { (Roomy scratch.old) × ((CellsListed scratch.old) × (x < cells)) }
     ensures { Dropped scratch.old scratch.new x }

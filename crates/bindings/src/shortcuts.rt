@@ -1,6 +1,6 @@
 // Short cuts through chains of variables, which hold for one unification: a cut leads from a cell to one further along its chain. A slot for each cell says
 // which cut is the cell's: it is the higher half of one of the memo's slots. Slots are never cleared, since a cut names its cell. On a long walk a cut is made
-// every so many links, so a later walk along the chain is short. The library allocates nothing: list and slots are words that are lent, and no map.
+// every so many links, so a later walk along the chain is short.
 
 ghost use Rattle.std.specs.Prelude.{◌<◌, ◌+◌, get_or};
 ghost use Rattle.run_layout.specs.Regions.{cells};
@@ -20,15 +20,14 @@ use words::tables::{put, word_at};
 // A cut leads over so many links, or cuts.
 const STRIDE: usize = 32;
 
-// A term that a walk has come to, and the next one from there, if there is one.
+/// A term that a walk has come to, and the next one from there, if there is one.
 #[derive(Clone, Copy)]
 pub struct Stage {
     pub at: At,
     pub next: Option<At>,
 }
 
-// Where two terms lead. (Terms that are given are two parameters, here and in `unify`: they come from two rows, and `follow` hands on how far it has led
-// each. Only `cross` has a pair at hand, which it takes apart for `decide`.)
+/// Where two terms lead.
 #[derive(Clone, Copy)]
 pub struct Ends {
     pub left: At,
@@ -181,7 +180,7 @@ fn follow_on(nodes: &[u32], state: &[u32], scratch: &mut [u32], p: At, q: At) ->
     follow_far(nodes, front, scratch, p, q)
 }
 
-// Where two terms lead, each to a name or to an unbound variable.
+/// Where two terms lead, each to a name or to an unbound variable.
 pub fn follow(nodes: &[u32], state: &[u32], scratch: &mut [u32], p: At, q: At) -> Ends
     requires { Both nodes.now state.now scratch.old p q }
     ensures { (g : Both nodes.now state.now scratch.old p q) → BothFollowed g scratch.new result }

@@ -6,7 +6,7 @@ ghost use Rattle.bindings.specs.Scratch.{stack_side, stack_side_words, pair_word
 use run_layout::{PAIR_SIZE, SIDE_SIZE, STACK};
 use words::tables::{put_three, word_at};
 
-// A row: the node whose row it is, the place reached, the copy.
+/// One side of a pair, a row: the node whose row it is, the place reached, the copy.
 #[derive(Clone, Copy)]
 pub struct Side {
     pub root: usize,
@@ -14,6 +14,7 @@ pub struct Side {
     pub copy: usize,
 }
 
+/// The side whose words stand from place i on.
 pub fn side_at(scratch: &[u32], i: usize) -> Side
     requires { i + side_size ≤ length scratch.now }
     ensures { result ≡ stack_side scratch.now i }
@@ -24,6 +25,7 @@ pub fn side_at(scratch: &[u32], i: usize) -> Side
     Side { root, at, copy }
 }
 
+/// Writes a side's words from place i on.
 pub fn put_side(scratch: &mut [u32], i: usize, s: Side)
     requires { (i + side_size ≤ length scratch.old) × ((s.root < 2 ^ 32) × ((s.at < 2 ^ 32) × (s.copy < 2 ^ 32))) }
     ensures { scratch.new ≡ stack_side_words scratch.old i s }
@@ -31,7 +33,7 @@ pub fn put_side(scratch: &mut [u32], i: usize, s: Side)
     put_three(scratch, i, s.root, s.at, s.copy);
 }
 
-// The pair of number k.
+/// Writes the pair of number k, the lowest being 0.
 pub fn put_pair(scratch: &mut [u32], k: usize, l: Side, r: Side)
     requires { (pair_of k + pair_size ≤ length scratch.old) × (((l.root < 2 ^ 32) × ((l.at < 2 ^ 32) × (l.copy < 2 ^ 32)))
         × ((r.root < 2 ^ 32) × ((r.at < 2 ^ 32) × (r.copy < 2 ^ 32)))) }

@@ -11,7 +11,7 @@ use lib.ListN.{length, get_or}
 use borrow.Author.Tests.{not-true, not-false}
 use Rattle.syntax.specs.Terms.{term_of, Literal, call, equation, truth, falsity, either, Body, done, also, Clause}
 use Rattle.syntax.specs.Words.{equation_kind, atom_words, literal_length, body_length, literal_words, body_words, clause_words, clauses_words}
-use Rattle.words.specs.Tables.{Has, NodeInTable}
+use Rattle.words.specs.Tables.{WordsAt, NodeInTable}
 use Rattle.words.specs.Items.{Item, plain_call, plain_equation, plain_truth, plain_falsity, item_words, ItemsAt}
 use Rattle.words.proofs.TablesLaws.{has_left, has_right, size_is, term_inside, clause-says}
 use Rattle.words.proofs.Items.{item_room, on-begin, on-first}
@@ -30,14 +30,14 @@ pub record BodyOn (table : List ℕ) (at left : ℕ) (whole : Body) : Type 0 whe
 pub body-begins : {table : List ℕ} {p items : ℕ} (b : Body) → ItemsAt table p items b → BodyOn table p items b
 body-begins b w = record { rest = b; here = w; same = refl }
 
-pub first-item : {table : List ℕ} {at left : ℕ} {b : Body} → 0 < left → BodyOn table at left b → (x : Item) × Has table at (item_words x)
+pub first-item : {table : List ℕ} {at left : ℕ} {b : Body} → 0 < left → BodyOn table at left b → (x : Item) × WordsAt table at (item_words x)
 first-item {table} {at} {left} l o = on-first {i = 0} l (on-begin table at left o.rest o.here)
 
 pub item-inside : {table : List ℕ} {at left : ℕ} {b : Body} → 0 < left → BodyOn table at left b → at < length table
-item-inside {table} {at} l o = let x : (x : Item) × Has table at (item_words x) = first-item l o in item_room table at x.0 x.1
+item-inside {table} {at} l o = let x : (x : Item) × WordsAt table at (item_words x) = first-item l o in item_room table at x.0 x.1
 
 module _ (table : List ℕ) (at left word : ℕ) (l : 0 < left) (e : word ≡ get_or table at 0) where
-  is-by : equation_kind < word → (b : Body) → Has table at (body_words b) → left ≡ body_length b → true ≡ not (without_brackets b)
+  is-by : equation_kind < word → (b : Body) → WordsAt table at (body_words b) → left ≡ body_length b → true ≡ not (without_brackets b)
   unfolding body_words literal_words body_length without_brackets is_bracket
   is-by g done h n = absurd (omega arith)
   is-by g (also (call a) b) h n = absurd (omega (arith, h.1))
@@ -49,17 +49,17 @@ module _ (table : List ℕ) (at left word : ℕ) (l : 0 < left) (e : word ≡ ge
   pub body-bracketed : equation_kind < word → {b : Body} → BodyOn table at left b → true ≡ not (without_brackets b)
   body-bracketed g o = is-by g o.rest o.here.has o.here.many ∙ ap not (sym o.same)
 
-  module _ (m : word ≤ equation_kind) (next : ℕ) (n : (x : Item) → Has table at (item_words x) → next ≡ at + length (item_words x)) where
+  module _ (m : word ≤ equation_kind) (next : ℕ) (n : (x : Item) → WordsAt table at (item_words x) → next ≡ at + length (item_words x)) where
     -- past an item, and past a literal that is no bracket
-    past : (x : Item) (whole b : Body) → Has table at (item_words x ++ body_words b) → left ≡ 1 + body_length b → without_brackets whole ≡ without_brackets b → BodyOn table next (left - 1) whole
+    past : (x : Item) (whole b : Body) → WordsAt table at (item_words x ++ body_words b) → left ≡ 1 + body_length b → without_brackets whole ≡ without_brackets b → BodyOn table next (left - 1) whole
     past x whole b h k s =
         record {
           rest = b;
-          here = record { has = subst⁻¹ (λ (i : ℕ). Has table i (body_words b)) (n x (has_left table at (item_words x) (body_words b) h)) (has_right table at (item_words x) (body_words b) h); many = omega arith };
+          here = record { has = subst⁻¹ (λ (i : ℕ). WordsAt table i (body_words b)) (n x (has_left table at (item_words x) (body_words b) h)) (has_right table at (item_words x) (body_words b) h); many = omega arith };
           same = s;
         }
 
-    on-by : (whole b : Body) → Has table at (body_words b) → left ≡ body_length b → without_brackets whole ≡ without_brackets b → BodyOn table next (left - 1) whole
+    on-by : (whole b : Body) → WordsAt table at (body_words b) → left ≡ body_length b → without_brackets whole ≡ without_brackets b → BodyOn table next (left - 1) whole
     unfolding body_words literal_words item_words body_length literal_length without_brackets is_bracket
     on-by whole done h k s = absurd (omega arith)
     on-by whole (also (call a) b) h k s = past (plain_call a) whole b h k s
@@ -87,11 +87,11 @@ body-plain {table} {at} {left} {b} l o = by o.rest o.here.many ∙ ap not (sym o
 
 -- ---- a clause
 
-module _ (table : List ℕ) (p : ℕ) (x : Clause) (h : Has table p (clause_words x)) where
+module _ (table : List ℕ) (p : ℕ) (x : Clause) (h : WordsAt table p (clause_words x)) where
   pub clause-inside : p + 2 < length table
   clause-inside = (clause-says table p x h).words.inside
 
-  pub head-has : Has table (p + 3) (atom_words x.head)
+  pub head-has : WordsAt table (p + 3) (atom_words x.head)
   head-has = has_left table (p + 3) (atom_words x.head) (body_words x.body) (clause-says table p x h).words.rest
 
   pub head-inside : NodeInTable table (p + 3)
@@ -102,7 +102,7 @@ module _ (table : List ℕ) (p : ℕ) (x : Clause) (h : Has table p (clause_word
       let z : get_or table (p + 3 + 1) 0 ≡ length (atom_words x.head) = size_is table (p + 3) (term_of x.head) head-has in
       let q : first ≡ p + 3 + length (atom_words x.head) = omega arith in
       record {
-        has = subst⁻¹ (λ (i : ℕ). Has table i (body_words x.body)) q (has_right table (p + 3) (atom_words x.head) (body_words x.body) (clause-says table p x h).words.rest);
+        has = subst⁻¹ (λ (i : ℕ). WordsAt table i (body_words x.body)) q (has_right table (p + 3) (atom_words x.head) (body_words x.body) (clause-says table p x h).words.rest);
         many = en ∙ (clause-says table p x h).words.third;
       }
 
@@ -111,7 +111,7 @@ module _ (table : List ℕ) (p : ℕ) (x : Clause) (h : Has table p (clause_word
 -- what is left of the clauses from the i-th on, at a place, gives the answer of the whole
 pub record Ahead (table : List ℕ) (at i k : ℕ) (whole : Option ℕ) : Type 0 where
   pub list : List Clause
-  pub has : Has table at (clauses_words list)
+  pub has : WordsAt table at (clauses_words list)
   pub count : k ≡ i + length list
   pub same : whole ≡ first_bracketed (suc i) list
 
@@ -126,36 +126,36 @@ unfolding first_bracketed
 first-by n cl cls b e = ap (choice n cls) e
 
 module _ {table : List ℕ} {at i k : ℕ} {whole : Option ℕ} (l : i < k) where
-  pub ahead-clause : Ahead table at i k whole → (x : Clause) × Has table at (clause_words x)
+  pub ahead-clause : Ahead table at i k whole → (x : Clause) × WordsAt table at (clause_words x)
   ahead-clause o = by o.list o.has o.count
     where
-      by : (cls : List Clause) → Has table at (clauses_words cls) → k ≡ i + length cls → (x : Clause) × Has table at (clause_words x)
+      by : (cls : List Clause) → WordsAt table at (clauses_words cls) → k ≡ i + length cls → (x : Clause) × WordsAt table at (clause_words x)
       by [] h c = absurd (let z : k ≡ i + 0 = c in omega arith)
       by (x ∷ cls) h c = (x, has_left table at (clause_words x) (clauses_words cls) (unfold clauses_words in h))
 
-  module _ {r : Bool} (er : (x : Clause) → Has table at (clause_words x) → r ≡ not (without_brackets x.body)) where
+  module _ {r : Bool} (er : (x : Clause) → WordsAt table at (clause_words x) → r ≡ not (without_brackets x.body)) where
     pub ahead-stops : r ≡ true → Ahead table at i k whole → Some (i + 1) ≡ told_number whole
     ahead-stops t o = by o.list o.has o.count o.same
       where
-        by : (cls : List Clause) → Has table at (clauses_words cls) → k ≡ i + length cls → whole ≡ first_bracketed (suc i) cls → Some (i + 1) ≡ told_number whole
+        by : (cls : List Clause) → WordsAt table at (clauses_words cls) → k ≡ i + length cls → whole ≡ first_bracketed (suc i) cls → Some (i + 1) ≡ told_number whole
         by [] h c s = absurd (let z : k ≡ i + 0 = c in omega arith)
         by (x ∷ cls) h c s =
             let q : without_brackets x.body ≡ false = not-true (without_brackets x.body) (sym (er x (has_left table at (clause_words x) (clauses_words cls) (unfold clauses_words in h))) ∙ t) in
             let v : whole ≡ some (suc i) = s ∙ first-by (suc i) x cls false q in
             ap Some (add-one i) ∙ sym (ap told_number v ∙ number_is (suc i))
 
-    pub ahead-on : r ≡ false → {next : ℕ} → ((x : Clause) → Has table at (clause_words x) → next ≡ at + length (clause_words x)) → Ahead table at i k whole → Ahead table next (i + 1) k whole
+    pub ahead-on : r ≡ false → {next : ℕ} → ((x : Clause) → WordsAt table at (clause_words x) → next ≡ at + length (clause_words x)) → Ahead table at i k whole → Ahead table next (i + 1) k whole
     ahead-on t {next} n o = by o.list o.has o.count o.same
       where
-        by : (cls : List Clause) → Has table at (clauses_words cls) → k ≡ i + length cls → whole ≡ first_bracketed (suc i) cls → Ahead table next (i + 1) k whole
+        by : (cls : List Clause) → WordsAt table at (clauses_words cls) → k ≡ i + length cls → whole ≡ first_bracketed (suc i) cls → Ahead table next (i + 1) k whole
         by [] h c s = absurd (let z : k ≡ i + 0 = c in omega arith)
         by (x ∷ cls) h c s =
-            let here : Has table at (clause_words x) = has_left table at (clause_words x) (clauses_words cls) (unfold clauses_words in h) in
+            let here : WordsAt table at (clause_words x) = has_left table at (clause_words x) (clauses_words cls) (unfold clauses_words in h) in
             let q : without_brackets x.body ≡ true = not-false (without_brackets x.body) (sym (er x here) ∙ t) in
             let z : k ≡ i + suc (length cls) = c in
             record {
               list = cls;
-              has = subst⁻¹ (λ (j : ℕ). Has table j (clauses_words cls)) (n x here) (has_right table at (clause_words x) (clauses_words cls) (unfold clauses_words in h));
+              has = subst⁻¹ (λ (j : ℕ). WordsAt table j (clauses_words cls)) (n x here) (has_right table at (clause_words x) (clauses_words cls) (unfold clauses_words in h));
               count = omega arith;
               same = s ∙ first-by (suc i) x cls true q ∙ ap (λ (j : ℕ). first_bracketed (suc j) cls) (sym (add-one i));
             }

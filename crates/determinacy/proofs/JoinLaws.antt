@@ -13,7 +13,7 @@ use Rattle.syntax.specs.Terms.{Term, Terms, nil, cons, arity, Mark, input, outpu
 use Rattle.syntax.specs.Words.{mark_number, marks_number, first_mark, other_marks}
 use Rattle.syntax.proofs.Words.{marks-first, marks-others}
 use Rattle.mode_rules.specs.Modes.{same_mark, list_of}
-use Rattle.words.specs.Tables.{Has, NodeInTable}
+use Rattle.words.specs.Tables.{WordsAt, NodeInTable}
 use Rattle.words.proofs.TablesLaws.{has_left, has_right}
 use Rattle.machine.specs.Substitution.{Binding}
 use Rattle.machine.specs.Determinacy.{kept_if, inputs_by, join_on, joined}
@@ -25,7 +25,7 @@ use Rattle.run_layout.proofs.Nodes.{words-some, size_word, node-size, node-insid
 use Rattle.bindings.specs.Scratch.{Roomy}
 use Rattle.unify.specs.Turns.{answered, Unifiable, UnifyGives}
 use Rattle.unify.specs.declared.solve.UnifyAnswer.{UnifyAnswer}
-use Rattle.determinacy.specs.Joins.{left_copy, right_copy, unify_if, Paired, InputUnified, Joinable, Joins}
+use Rattle.determinacy.specs.Joins.{left_copy, right_copy, unify_if, Paired, InputUnified, Joinable, InputsJoined}
 
 -- ---- one pair of arguments
 
@@ -129,12 +129,12 @@ unfolding loaded_all are_loadable brackets_all
 parted ss nodes p t ts s =
     let ok : T (is_loadable ss t) × T (are_loadable ss ts) = both (is_loadable ss t) (are_loadable ss ts) s.loadable in
     let few : brackets_all (cons t ts) ≤ brackets + 1 = s.shallow in
-    let one : Has nodes p (loaded_words ss t) = has_left nodes p (loaded_words ss t) (loaded_all ss ts) s.words in
+    let one : WordsAt nodes p (loaded_words ss t) = has_left nodes p (loaded_words ss t) (loaded_all ss ts) s.words in
     let e : get_or nodes (p + 1) 0 ≡ length (loaded_words ss t) = size_word ss nodes p t one in
     record {
       first = record { words = one; loadable = ok.0; shallow = omega arith };
       rest = record {
-        words = subst⁻¹ (λ (i : ℕ). Has nodes (p + i) (loaded_all ss ts)) e (has_right nodes p (loaded_words ss t) (loaded_all ss ts) s.words);
+        words = subst⁻¹ (λ (i : ℕ). WordsAt nodes (p + i) (loaded_all ss ts)) e (has_right nodes p (loaded_words ss t) (loaded_all ss ts) s.words);
         loadable = ok.1;
         shallow = omega arith;
       };
@@ -184,7 +184,7 @@ split_by ss nodes p stop q marks listed (cons t ts) (cons u us) l a b e k m =
     }
 
 module _ {nodes state scratch : List ℕ} {p stop q marks n : ℕ} where
-  pub join-none : stop ≤ p → (w : Joinable nodes state scratch p stop q marks n) → Joins w state scratch (record { equal = true; trail = n })
+  pub join-none : stop ≤ p → (w : Joinable nodes state scratch p stop q marks n) → InputsJoined w state scratch (record { equal = true; trail = n })
   join-none l w = record { store = w.store; clean = w.clean; long = refl; answer = by w.left w.right w.ends w.alike ∙ (unfold answered in refl) }
     where
       by : (left right : Terms) → stop ≡ p + length (loaded_all w.ss left) → arity left ≡ arity right
@@ -235,7 +235,7 @@ module _ {nodes state scratch : List ℕ} {p stop q marks n : ℕ} where
           ∙ ap (λ (o : Option (List Binding)). join_on o (λ b1. joined b1 (inputs_by (others w.listed) (list_of (split w).ts)) (inputs_by (others w.listed) (list_of (split w).us))))
           ((met w).answer (split w).t (split w).u (split w).one (split w).two ∙ ap (λ (x : Bool). answered x (bindings w.ss nodes state1 u.trail)) e)
 
-      pub join-stops : u.equal ≡ false → (w : Joinable nodes state scratch p stop q marks n) → Joins w state1 scratch1 (record { equal = false; trail = u.trail })
+      pub join-stops : u.equal ≡ false → (w : Joinable nodes state scratch p stop q marks n) → InputsJoined w state1 scratch1 (record { equal = false; trail = u.trail })
       join-stops e w = record {
         store = (met w).store;
         clean = (met w).clean;
@@ -267,8 +267,8 @@ module _ {nodes state scratch : List ℕ} {p stop q marks n : ℕ} where
             }
 
         pub join-on : u.equal ≡ true → {state2 scratch2 : List ℕ} {r : UnifyAnswer}
-            → ((v : Joinable nodes state1 scratch1 next stop other rest u.trail) → Joins v state2 scratch2 r)
-            → (w : Joinable nodes state scratch p stop q marks n) → Joins w state2 scratch2 r
+            → ((v : Joinable nodes state1 scratch1 next stop other rest u.trail) → InputsJoined v state2 scratch2 r)
+            → (w : Joinable nodes state scratch p stop q marks n) → InputsJoined w state2 scratch2 r
         unfolding join-rest
         join-on e f w =
             let j = f (join-rest w) in

@@ -8,7 +8,7 @@ use Rattle.std.specs.Prelude.{Option as Told, Some, None}
 use lib.ListN.{length}
 use Rattle.syntax.specs.Terms.{done, Sheet, Goal, literals_of}
 use Rattle.syntax.specs.Words.{body_words, body_length}
-use Rattle.marks.specs.Standing.{done_stands}
+use Rattle.marks.specs.Spelt.{done_stands}
 use Rattle.marks.specs.declared.declarations.Declarations.{Declarations}
 use Rattle.machine.specs.Determinacy.{first_bracketed, Pair, first_pair, against, judged_by}
 use Rattle.run_layout.proofs.Limits.{program-limited}

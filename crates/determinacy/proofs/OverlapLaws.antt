@@ -12,7 +12,7 @@ use lib.ListN.{length, get_or, drop}
 use Rattle.syntax.specs.Limits.{brackets}
 use Rattle.syntax.specs.Terms.{Terms, compound, arity, term_of, Mark, same_name, Clause}
 use Rattle.mode_rules.specs.Modes.{or_no_marks, marks_for, list_of}
-use Rattle.words.specs.Tables.{Has, NodeInTable}
+use Rattle.words.specs.Tables.{WordsAt, NodeInTable}
 use Rattle.machine.specs.Substitution.{Binding}
 use Rattle.machine.specs.Machine.{is_for, next_for, clause_at}
 use Rattle.machine.specs.Determinacy.{inputs_by, inputs, joined, is_joined, joins, overlaps, first_overlap}
@@ -30,8 +30,8 @@ use Rattle.bindings.specs.Cells.{Stored, Undone}
 use Rattle.unify.specs.Turns.{answered}
 use Rattle.unify.specs.declared.solve.UnifyAnswer.{UnifyAnswer}
 use Rattle.determinacy.specs.Clauses.{told_number}
-use Rattle.determinacy.specs.Joins.{Joinable, Joins}
-use Rattle.determinacy.specs.Overlaps.{some_number, NothingBound, ClauseOf, PairOf, Overlaps, FirstBehind}
+use Rattle.determinacy.specs.Joins.{Joinable, InputsJoined}
+use Rattle.determinacy.specs.Overlaps.{some_number, NothingBound, ClauseOf, PairOf, OverlapAnswer, FirstBehind}
 use Rattle.determinacy.proofs.Numbers.{number_is, number-nothing}
 use Rattle.determinacy.proofs.Clauses.{from, from_next, from-hit, from-miss, from-none, next-later}
 
@@ -48,7 +48,7 @@ arguments-of ss nodes p b f ts s =
     let few : brackets_all ts ≤ brackets = s.shallow in
     record {
       stand = record {
-        words = subst (λ (q : ℕ). Has nodes q (loaded_all ss ts)) (let e : (p + 1) + 1 ≡ p + loaded_node = omega arith in e) s.words.2.2;
+        words = subst (λ (q : ℕ). WordsAt nodes q (loaded_all ss ts)) (let e : (p + 1) + 1 ≡ p + loaded_node = omega arith in e) s.words.2.2;
         loadable = (both (is_listed ss f (arity ts)) (are_loadable ss ts) s.loadable).1;
         shallow = omega arith;
       };
@@ -124,8 +124,8 @@ module _ {nodes code state scratch : List ℕ} {i j marks : ℕ} (w : PairOf nod
           }
 
       module _ {state1 scratch1 : List ℕ} {u : UnifyAnswer}
-          (f : (v : Joinable nodes state scratch (p + loaded_node) stop (q + loaded_node) marks 0) → Joins v state1 scratch1 u) where
-        joins-so : Joins pair-joinable state1 scratch1 u
+          (f : (v : Joinable nodes state scratch (p + loaded_node) stop (q + loaded_node) marks 0) → InputsJoined v state1 scratch1 u) where
+        joins-so : InputsJoined pair-joinable state1 scratch1 u
         joins-so = f pair-joinable
 
         pub pair-stored : Stored state1 u.trail
@@ -159,7 +159,7 @@ module _ {nodes code state scratch : List ℕ} {i j marks : ℕ} (w : PairOf nod
             for-by (is_for w.one.clause.head w.other) w.predicate
             (is_joined (joined [] (inputs w.one.sh.declarations w.one.clause.head) (inputs w.one.sh.declarations w.other.head)))
 
-        pub pair-overlaps : {state2 : List ℕ} → Undone state1 state2 0 u.trail → Overlaps w state2 scratch1 u.equal
+        pub pair-overlaps : {state2 : List ℕ} → Undone state1 state2 0 u.trail → OverlapAnswer w state2 scratch1 u.equal
         unfolding pair-joinable
         pair-overlaps z =
             let a : length scratch1 ≡ length scratch = joins-so.long in
@@ -218,7 +218,7 @@ module _ {nodes code before scratch : List ℕ} {i marks : ℕ} where
     pub seek-record : (w : ClauseOf nodes code before scratch i marks) → Seeking w state later j → (j < 2 ^ 32) × (clause_record j + clause_size ≤ length code)
     seek-record w s = second-record (seek-pair w s)
 
-    module _ {state1 later1 : List ℕ} {r : Bool} (f : (v : PairOf nodes code state later i j marks) → Overlaps v state1 later1 r)
+    module _ {state1 later1 : List ℕ} {r : Bool} (f : (v : PairOf nodes code state later i j marks) → OverlapAnswer v state1 later1 r)
         (w : ClauseOf nodes code before scratch i marks) (s : Seeking w state later j) where
       overlap-is : r ≡ overlaps w.sh.declarations w.clause (other-of w s).0
       unfolding seek-pair

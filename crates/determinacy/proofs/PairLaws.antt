@@ -10,11 +10,11 @@ use lib.ListN.{length, drop}
 use Rattle.syntax.specs.Terms.{Declaration, Clause, Sheet}
 use Rattle.syntax.specs.Words.{marks_number, clause_words, clauses_words}
 use Rattle.mode_rules.specs.Modes.{marks_for}
-use Rattle.words.specs.Tables.{Has}
+use Rattle.words.specs.Tables.{WordsAt}
 use Rattle.words.proofs.TablesLaws.{has_left, has_right}
-use Rattle.marks.specs.Standing.{ClauseSpelt, ClausesSpelt, clause_stands}
+use Rattle.marks.specs.Spelt.{ClauseSpelt, ClausesSpelt, clause_stands}
 use Rattle.marks.specs.Tables.{AtomAt}
-use Rattle.marks.specs.Stand.{Stand}
+use Rattle.marks.specs.InTables.{DeclarationsIn}
 use Rattle.marks.specs.declared.declarations.Declarations.{Declarations}
 use Rattle.machine.specs.Machine.{clause_at}
 use Rattle.load.specs.declared.records.Compiled.{Compiled}
@@ -51,13 +51,13 @@ module _ {declared : Declarations} {table : List ℕ} {k : ℕ} {program : Compi
   pub record Ranging (state later : List ℕ) (at i : ℕ) : Type 0 where
     pub list : List Clause
     pub is : list ≡ drop i sheet.clauses
-    pub has : Has table at (clauses_words list)
+    pub has : WordsAt table at (clauses_words list)
     pub count : k ≡ i + length list
     pub stand : ClausesSpelt declared.text.now list
     pub blank : NothingBound w.linked.ss program.nodes.now state later
     pub same : first_pair sheet.declarations 1 sheet.clauses ≡ first_pair sheet.declarations (suc i) list
 
-  pub declarations-at : Stand declared
+  pub declarations-at : DeclarationsIn declared
   declarations-at = record {
     list = sheet.declarations;
     has = w.linked.stands.has_declarations;
@@ -88,8 +88,8 @@ module _ {declared : Declarations} {table : List ℕ} {k : ℕ} {program : Compi
   record Turn (at i : ℕ) : Type 0 where
     clause : Clause
     left : List Clause
-    here : Has table at (clause_words clause)
-    behind : Has table (at + length (clause_words clause)) (clauses_words left)
+    here : WordsAt table at (clause_words clause)
+    behind : WordsAt table (at + length (clause_words clause)) (clauses_words left)
     stands : ClauseSpelt declared.text.now clause
     stand : ClausesSpelt declared.text.now left
     count : k ≡ i + suc (length left)
@@ -101,7 +101,7 @@ module _ {declared : Declarations} {table : List ℕ} {k : ℕ} {program : Compi
     turn : Turn at i
     turn = by o.list o.is o.has o.count o.stand o.same
       where
-        by : (cls : List Clause) → cls ≡ drop i sheet.clauses → Has table at (clauses_words cls) → k ≡ i + length cls → ClausesSpelt declared.text.now cls
+        by : (cls : List Clause) → cls ≡ drop i sheet.clauses → WordsAt table at (clauses_words cls) → k ≡ i + length cls → ClausesSpelt declared.text.now cls
             → first_pair sheet.declarations 1 sheet.clauses ≡ first_pair sheet.declarations (suc i) cls → Turn at i
         by [] d h c t e = absurd (let z : k ≡ i + 0 = c in omega arith)
         by (x ∷ cls) d h c (clause_stands t ts) e = record {
@@ -117,7 +117,7 @@ module _ {declared : Declarations} {table : List ℕ} {k : ℕ} {program : Compi
           same = e;
         }
 
-    pub range_clause : (x : Clause) × Has table at (clause_words x)
+    pub range_clause : (x : Clause) × WordsAt table at (clause_words x)
     range_clause = (turn.clause, turn.here)
 
     pub range_inside : at + 2 < length table
@@ -126,7 +126,7 @@ module _ {declared : Declarations} {table : List ℕ} {k : ℕ} {program : Compi
     pub range_head : AtomAt declared.text.now table (at + 3)
     range_head = record { atom = turn.clause.head; has = head-has table at turn.clause turn.here; stands = turn.stands.head }
 
-    module _ {marks : ℕ} (em : (d : Stand declared) (a : AtomAt declared.text.now table (at + 3)) → marks ≡ marks_number (marks_for d.list a.atom)) where
+    module _ {marks : ℕ} (em : (d : DeclarationsIn declared) (a : AtomAt declared.text.now table (at + 3)) → marks ≡ marks_number (marks_for d.list a.atom)) where
       pub range_of : ClauseOf program.nodes.now program.code.now state later (i + 1) marks
       unfolding range_head declarations-at
       range_of = record {
@@ -160,7 +160,7 @@ module _ {declared : Declarations} {table : List ℕ} {k : ℕ} {program : Compi
             turn.same ∙ pair-by sheet.declarations (suc i) turn.clause turn.left (some m) a in
             ap (λ (j : ℕ). No j m) (add-one i) ∙ sym (ap (λ (p : Option Pair). told (judged_by p)) b ∙ told-no (suc i) m)
 
-        pub range_on : r ≡ None → {next : ℕ} → ((x : Clause) → Has table at (clause_words x) → next ≡ at + length (clause_words x)) → Ranging state1 later1 next (i + 1)
+        pub range_on : r ≡ None → {next : ℕ} → ((x : Clause) → WordsAt table at (clause_words x) → next ≡ at + length (clause_words x)) → Ranging state1 later1 next (i + 1)
         range_on d {next} en =
             let a : first_overlap sheet.declarations turn.clause (suc (suc i)) turn.left ≡ none =
             number-none (first_overlap sheet.declarations turn.clause (suc (suc i)) turn.left) (sym d ∙ behind_is) in
@@ -168,7 +168,7 @@ module _ {declared : Declarations} {table : List ℕ} {k : ℕ} {program : Compi
             record {
               list = turn.left;
               is = turn.is ∙ ap (λ (m : ℕ). drop m sheet.clauses) (sym (add-one i));
-              has = subst⁻¹ (λ (j : ℕ). Has table j (clauses_words turn.left)) (en turn.clause turn.here) turn.behind;
+              has = subst⁻¹ (λ (j : ℕ). WordsAt table j (clauses_words turn.left)) (en turn.clause turn.here) turn.behind;
               count = omega arith;
               stand = turn.stand;
               blank = blank_after;

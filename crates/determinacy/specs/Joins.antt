@@ -8,13 +8,13 @@ use Rattle.machine.specs.Substitution.{copied, Binding}
 use Rattle.machine.specs.Unification.{unify}
 use Rattle.machine.specs.Determinacy.{inputs_by, joined}
 use Rattle.run_layout.specs.Nodes.{Symbol, Node, TermLoaded, TermsLoaded, loaded_all}
-use Rattle.run_layout.specs.State.{bindings, Store, Within}
+use Rattle.run_layout.specs.State.{bindings, Store, WithinCopies}
 use Rattle.bindings.specs.Scratch.{Roomy}
 use Rattle.bindings.specs.Queues.{Clean}
 use Rattle.unify.specs.Turns.{answered}
 use Rattle.unify.specs.declared.solve.UnifyAnswer.{UnifyAnswer}
 
--- the copies of the two clauses
+-- the copies of the two clauses, "with variables kept apart"
 abbrev pub left_copy : ℕ
 left_copy = 1
 
@@ -34,7 +34,7 @@ pub record Paired (nodes state scratch : List ℕ) (p q n : ℕ) : Type 0 where
   pub left : Node ss nodes p
   pub right : Node ss nodes q
   pub store : Store ss nodes state n
-  pub within : Within right_copy state n
+  pub within : WithinCopies right_copy state n
   pub roomy : Roomy scratch
   pub clean : Clean scratch
 
@@ -42,7 +42,7 @@ pub record Paired (nodes state scratch : List ℕ) (p q n : ℕ) : Type 0 where
 pub record InputUnified {nodes before scratch : List ℕ} {p q n : ℕ} (w : Paired nodes before scratch p q n) (after later : List ℕ) (b : Bool)
     (r : UnifyAnswer) : Type 0 where
   pub store : Store w.ss nodes after r.trail
-  pub within : Within right_copy after r.trail
+  pub within : WithinCopies right_copy after r.trail
   pub clean : Clean later
   pub long : length later ≡ length scratch
   pub answer : (t u : Term) → TermLoaded w.ss nodes p t → TermLoaded w.ss nodes q u → unify_if b (bindings w.ss nodes before n) t u
@@ -62,12 +62,12 @@ pub record Joinable (nodes state scratch : List ℕ) (p stop q marks n : ℕ) : 
   pub listed : List Mark
   pub number : marks ≡ marks_number listed
   pub store : Store ss nodes state n
-  pub within : Within right_copy state n
+  pub within : WithinCopies right_copy state n
   pub roomy : Roomy scratch
   pub clean : Clean scratch
 
 -- The words then mean the bindings that join those marked +, or there are none.
-pub record Joins {nodes before scratch : List ℕ} {p stop q marks n : ℕ} (w : Joinable nodes before scratch p stop q marks n) (after later : List ℕ)
+pub record InputsJoined {nodes before scratch : List ℕ} {p stop q marks n : ℕ} (w : Joinable nodes before scratch p stop q marks n) (after later : List ℕ)
     (r : UnifyAnswer) : Type 0 where
   pub store : Store w.ss nodes after r.trail
   pub clean : Clean later

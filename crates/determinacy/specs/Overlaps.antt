@@ -47,7 +47,7 @@ pub record PairOf (nodes code state scratch : List ℕ) (i j marks : ℕ) : Type
   pub predicate : T (is_for one.clause.head other)
 
 -- the definition's answer, and no bindings again
-pub record Overlaps {nodes code before scratch : List ℕ} {i j marks : ℕ} (w : PairOf nodes code before scratch i j marks) (after later : List ℕ)
+pub record OverlapAnswer {nodes code before scratch : List ℕ} {i j marks : ℕ} (w : PairOf nodes code before scratch i j marks) (after later : List ℕ)
     (r : Bool) : Type 0 where
   pub is : r ≡ overlaps w.one.sh.declarations w.one.clause w.other
   pub blank : NothingBound w.one.ss nodes after later

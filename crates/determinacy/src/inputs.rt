@@ -3,7 +3,7 @@
 ghost use Rattle.std.specs.Prelude.{eqb};
 ghost use Rattle.syntax.specs.Terms.{input};
 ghost use Rattle.syntax.specs.Words.{first_mark, mark_number};
-ghost use Rattle.determinacy.specs.Joins.{Paired, InputUnified, Joinable, Joins};
+ghost use Rattle.determinacy.specs.Joins.{Paired, InputUnified, Joinable, InputsJoined};
 
 use run_layout::terms::At;
 use syntax::INPUT;
@@ -11,12 +11,14 @@ use unify::solve::{UnifyAnswer, unify};
 use words::packing::{first_mark, other_marks};
 use words::tables::past;
 
-// The copies of the two clauses, so that their variables are apart.
+// The copy that the first clause is, "with variables kept apart".
 const LEFT_COPY: usize = 1;
 
+// The copy that the second clause is.
 const RIGHT_COPY: usize = 2;
 
-// The arguments of two heads that are left: of one head those from `left` to `stop`, of the other, as many, those from `right` on; and their marks.
+/// The arguments of two heads that are left: of one head those from `left` to `stop`, of the other, as many, those from `right` on; and their marks in one
+/// number, the first lowest. Places are of nodes in the program's table.
 #[derive(Clone, Copy)]
 pub struct Arguments {
     pub left: usize,
@@ -25,7 +27,7 @@ pub struct Arguments {
     pub marks: usize,
 }
 
-// The first two of them unified where the first of the marks is +, with n bindings.
+// Unifies the first two of them where the first of the marks is +, with n bindings; else they count as equal.
 fn unify_input(
     nodes: &[u32],
     state: &mut [u32],
@@ -59,7 +61,8 @@ fn unify_input(
     )
 }
 
-// The arguments unified pair by pair where they are marked +, each under the bindings of those before.
+/// Unifies the arguments pair by pair where they are marked +, each pair under the bindings of those before. With `n` bindings at first; returned is whether
+/// all pairs unify, and how many bindings there are then.
 pub fn join_inputs(
     nodes: &[u32],
     state: &mut [u32],
@@ -68,7 +71,7 @@ pub fn join_inputs(
     n: usize,
 ) -> UnifyAnswer
     requires { Joinable nodes.now state.old scratch.old args.left args.stop args.right args.marks n }
-    ensures { (w : Joinable nodes.now state.old scratch.old args.left args.stop args.right args.marks n) → Joins w state.new scratch.new result }
+    ensures { (w : Joinable nodes.now state.old scratch.old args.left args.stop args.right args.marks n) → InputsJoined w state.new scratch.new result }
 {
     if args.stop <= args.left {
         return UnifyAnswer {

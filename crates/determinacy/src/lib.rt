@@ -1,5 +1,5 @@
-// REQUESTS (xii): whether an accepted sheet has no bracket and no two clauses of one predicate whose + arguments have a common instance, so that
-// a run writes at most one line.
+// At most one answer (REQUESTS (xii)): whether an accepted sheet has no bracket and no two clauses of one predicate whose + arguments have a common
+// instance, so that a run without a trace, of a goal without brackets, writes at most one line.
 
 #![tactic(auto)]
 
@@ -24,9 +24,8 @@ use run_layout::rooms::cleared;
 use run_layout::{CODE_WORDS, NARROW_WORDS, NODES_WORDS, STORE_WORDS};
 use syntax::Refusal;
 
-// The answer to the test: yes; no, with the first two clauses that speak against the sheet, or the first that has a bracket and 0; or the sheet's refusal.
-// Three ways with a name each, where a Result of an Option would call a yes `Ok(None)`. The second number is no Option, since the definition `against`, over
-// which the theorems are, has 0 for it at a bracket.
+/// The answer to the test: yes; no, with the numbers of the first two clauses that speak against the sheet, or of the first that has a bracket and 0; or the
+/// sheet's refusal. Clauses count from 1.
 #[derive(Clone, Copy)]
 pub enum Determinacy {
     Yes,
@@ -34,7 +33,7 @@ pub enum Determinacy {
     Refused(Refusal),
 }
 
-// The first two clauses of a loaded and linked sheet that overlap.
+// Tests the pairs of clauses of a loaded and linked sheet, with words of its own for unification.
 fn judge_linked(
     declarations: Declarations,
     table: &[u32],
@@ -51,7 +50,7 @@ fn judge_linked(
     first_pair(declarations, table, k, program, &mut state, &mut scratch)
 }
 
-// The same of a sheet that stands in its tables: it is loaded and linked with a goal of no literals.
+// Tests the pairs of clauses of a sheet that stands in its tables: it is loaded and linked with a goal of no literals.
 fn judge_pairs(declarations: Declarations, table: &[u32], k: usize) -> Determinacy
     requires { SheetReady declarations.text.now declarations.words.now declarations.count table.now k }
     ensures { (w : SheetReady declarations.entry.text.now declarations.entry.words.now declarations.entry.count table.now k) → result
@@ -81,8 +80,7 @@ fn judge_pairs(declarations: Declarations, table: &[u32], k: usize) -> Determina
     judge_linked(declarations, table, k, program)
 }
 
-// The test of a checked sheet that stands in its tables: its declarations, and its clauses, k of them. (Declarations, table and number of clauses are three
-// parameters, as in `marks::sheets::check_sheet`: what is below wants the declarations with a place of the table or alone, and would open a struct at once.)
+/// Tests a checked sheet that stands in its tables: its declarations, and the words of its `k` clauses. Brackets are looked for first, then pairs of clauses.
 pub fn judge(declarations: Declarations, table: &[u32], k: usize) -> Determinacy
     requires { SheetReady declarations.text.now declarations.words.now declarations.count table.now k }
     ensures { (w : SheetReady declarations.entry.text.now declarations.entry.words.now declarations.entry.count table.now k) → result

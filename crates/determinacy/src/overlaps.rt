@@ -1,9 +1,9 @@
-// Whether the + arguments of two clauses of one predicate have a common instance. The words for unification begin and end without bindings.
+// Whether the + arguments of two clauses of one predicate have a common instance. The words lent for unification begin and end without bindings.
 
 ghost use Rattle.std.specs.Prelude.{◌≡◌, ◌+◌, ◌≤◌, ◌<◌, ◌^◌, length};
 ghost use Rattle.run_layout.specs.Regions.{clause_record, clause_size};
 ghost use Rattle.run_layout.specs.Program.{head_at, after_at};
-ghost use Rattle.determinacy.specs.Overlaps.{some_number, PairOf, Overlaps, ClauseOf, FirstBehind};
+ghost use Rattle.determinacy.specs.Overlaps.{some_number, PairOf, OverlapAnswer, ClauseOf, FirstBehind};
 
 use crate::inputs::{Arguments, join_inputs};
 use bindings::store::undo;
@@ -20,7 +20,7 @@ fn head_of(code: &[u32], k: usize) -> usize
     word_at(code, i)
 }
 
-// The next clause of its predicate: the word is 0 where there is none.
+// The next clause of clause k's predicate; the word in the code is 0 where there is none.
 fn after_of(code: &[u32], k: usize) -> Option<usize>
     requires { (k < 2 ^ 32) × (clause_record k + clause_size ≤ length code.now) }
     ensures { result ≡ some_number (after_at code.now k) }
@@ -44,7 +44,7 @@ fn overlaps(
 ) -> bool
     requires { PairOf program.nodes.now program.code.now state.old scratch.old i j marks }
     ensures { (w : PairOf program.entry.nodes.now program.entry.code.now state.old scratch.old i j marks)
-        → Overlaps w state.new scratch.new result }
+        → OverlapAnswer w state.new scratch.new result }
 {
     let p = head_of(program.code, i);
     let q = head_of(program.code, j);
@@ -59,7 +59,7 @@ fn overlaps(
     u.equal
 }
 
-// The first clause behind clause i, of its predicate, that overlaps with it.
+/// The number of the first clause behind clause `i`, of its predicate, whose + arguments have a common instance with its own; None where none has.
 pub fn first_overlap(
     program: Compiled,
     state: &mut [u32],
@@ -72,7 +72,7 @@ pub fn first_overlap(
         → FirstBehind w state.new scratch.new result }
 {
     let mut next = after_of(program.code, i);
-    // The clauses of a predicate are a chain: each record names the next, and how many there are is known at the end alone, so no range counts them.
+    // The clauses of a predicate are a chain: each record names the next.
     while let Some(j) = next {
         if overlaps(program, state, scratch, i, j, marks) {
             return Some(j);

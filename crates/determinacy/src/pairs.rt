@@ -11,7 +11,8 @@ use marks::declarations::{Declarations, ReadText};
 use syntax::CLAUSE_START;
 use words::tables::past_clause;
 
-// The first two clauses of one predicate that overlap: the lowest first clause, and the first that overlaps with it.
+/// Looks for the first two clauses of one predicate that overlap, the lowest first clause and the first behind it: `No` with their numbers, and `Yes` where
+/// there are none.
 pub fn first_pair(
     declarations: Declarations,
     table: &[u32],
@@ -29,7 +30,7 @@ pub fn first_pair(
         table,
     };
     let mut at = 0;
-    // Clauses are of several lengths, so each says where the next begins, and a pair's test writes: no iterator has them.
+    // Clauses are of several lengths; each says where the next begins.
     for i in 0..k {
         let number = i + 1;
         let head = at + CLAUSE_START;

@@ -22,7 +22,7 @@ use Rattle.syntax.specs.Verdicts.{Refused}
 use Rattle.mode_rules.specs.Modes.{Known, none_ground, OpenArgument, Walk, faulted, known, marks_of, undeclared, undeclared_atom, undeclared_literal, undeclared_body, undeclared_clause, undeclared_clauses, undeclared_in_sheet, undeclared_in_goal, open_input, open_output, unless_fault, walk_on, in_both, call_walk, literal_walk, body_fault, head_fault, start_known, clause_fault, clauses_fault, first_of, sheet_fault, walk_fault, goal_fault}
 use Rattle.mode_rules.specs.Written.{is_written, is_exempt, first_unwritten, unwritten}
 use Rattle.mode_rules.specs.Checking.{name_span, faultless, checked_from, checked_with, checked_sheet, verdict_with, check_verdict, checked_goal_from, checked_goal, goal_answer, check_goal_from, check_goal_verdict}
-use Rattle.marks.specs.Standing.{TermSpelt, stands_compound, LiteralSpelt, call_stands, either_stands, BodySpelt, also_stands, ClauseSpelt, ClausesSpelt, clause_stands, SheetSpelt, GoalSpelt}
+use Rattle.marks.specs.Spelt.{TermSpelt, stands_compound, LiteralSpelt, call_stands, either_stands, BodySpelt, also_stands, ClauseSpelt, ClausesSpelt, clause_stands, SheetSpelt, GoalSpelt}
 use Rattle.marks.proofs.Accepted.{read-stands, goal_stands}
 use Rattle.machine.specs.Runs.{RunOutcome, stopped, ran, reported, over_goal, over_sheet, in_range, RunSettings, run_outcome, run_answer}
 use Rattle.exports.specs.Names.{NameInside}

@@ -1,4 +1,4 @@
--- Where the name stands that a refusal hands back.
+-- Where the name stands that a refusal hands back: "the part of the sheet or goal where it stands".
 use Rattle.std.specs.Prelude.{ℕ, ◌+◌, ◌≤◌, List, length}
 use Rattle.syntax.specs.declared.Refusal.{Refusal}
 use Rattle.syntax.specs.declared.Text.{Text}

@@ -1,5 +1,5 @@
-// Reading, checking and running for programs in other languages: include/pilvaust.h. Each answer is a list of numbers (specs/Numbers of out_numbers
-// and of out_entries), of which a lent slice takes as many as fit; later ones stay as they were.
+// Reading, checking and running for programs in other languages: include/pilvaust.h. Each answer is a list of numbers (`Numbers` and `EntriesNumbers` of
+// output/specs), of which a lent slice takes as many as fit; the rest of the slice stays as it was.
 
 #![tactic(auto)]
 
@@ -15,7 +15,7 @@ ghost use Rattle.exports.specs.Runs.{asking, outcome_numbers};
 
 use syntax::RunSettings;
 
-// The version of the functions below and of their numbers.
+/// The version of the functions below and of their numbers, which has to be `PILVAUST_VERSION` of the header.
 #[unsafe(no_mangle)]
 pub extern "C" fn pilvaust_version() -> usize
     ensures { result ≡ version }
@@ -23,7 +23,7 @@ pub extern "C" fn pilvaust_version() -> usize
     output::entries::version_number()
 }
 
-// A sheet is read: the verdict's numbers, and returned the number of its refusal, 0 where it is accepted.
+/// Reads a sheet, refusals 2 to 7: writes the numbers of the verdict and returns that of its refusal, 0 where the sheet is accepted.
 #[unsafe(no_mangle)]
 pub extern "C" fn pilvaust_read(sheet: &[u8], numbers: &mut [usize]) -> usize
     ensures is { result ≡ refusal_in (verdict_numbers (read_verdict sheet.now)) }
@@ -32,7 +32,7 @@ pub extern "C" fn pilvaust_read(sheet: &[u8], numbers: &mut [usize]) -> usize
     output::numbers::put_verdict(pilvaust::read(sheet), numbers)
 }
 
-// The same of a sheet that is checked.
+/// Checks a sheet, refusals 2 to 10 and 16: writes the numbers of the verdict and returns that of its refusal, 0 where the sheet is accepted.
 #[unsafe(no_mangle)]
 pub extern "C" fn pilvaust_check(sheet: &[u8], numbers: &mut [usize]) -> usize
     ensures is { result ≡ refusal_in (verdict_numbers (check_verdict sheet.now)) }
@@ -41,7 +41,7 @@ pub extern "C" fn pilvaust_check(sheet: &[u8], numbers: &mut [usize]) -> usize
     output::numbers::put_verdict(pilvaust::check(sheet), numbers)
 }
 
-// The same of a goal over a sheet.
+/// Checks a goal over a sheet, the sheet first: writes the numbers of the verdict and returns that of its refusal, 0 where both are accepted.
 #[unsafe(no_mangle)]
 pub extern "C" fn pilvaust_check_goal(sheet: &[u8], goal: &[u8], numbers: &mut [usize]) -> usize
     ensures is { result ≡ refusal_in (verdict_numbers (check_goal_verdict sheet.now goal.now)) }
@@ -51,8 +51,8 @@ pub extern "C" fn pilvaust_check_goal(sheet: &[u8], goal: &[u8], numbers: &mut [
     output::numbers::put_verdict(pilvaust::check_goal(sheet, goal), numbers)
 }
 
-// The i-th declaration, from 0 on, of a sheet that reading accepts: byte and length of its name, number of arguments; returned is how many
-// numbers these are, 0 where there is no such declaration.
+/// Writes byte and length of the name and number of arguments of declaration `i`, counted from 0, of a sheet that reading accepts. Returns how many numbers
+/// these are, 0 where there is no such declaration.
 #[unsafe(no_mangle)]
 pub extern "C" fn pilvaust_entry(sheet: &[u8], i: usize, numbers: &mut [usize]) -> usize
     ensures is { result ≡ length (entry_numbers (entry_at sheet.now i)) }
@@ -61,7 +61,7 @@ pub extern "C" fn pilvaust_entry(sheet: &[u8], i: usize, numbers: &mut [usize]) 
     output::entries::put_entry(pilvaust::entry(sheet, i), numbers)
 }
 
-// What a run is asked for, of what C passes: a mark is a `bool` there.
+// What a run is asked for, from the three parameters that C passes.
 fn settings(allowance: usize, wanted: usize, stored: bool) -> RunSettings
     ensures { result ≡ asking allowance wanted stored }
 {
@@ -72,8 +72,8 @@ fn settings(allowance: usize, wanted: usize, stored: bool) -> RunSettings
     }
 }
 
-// A goal run over a sheet, with at most so many steps and answers, which are written into the text; `stored` is the mark for a sheet stored
-// earlier. The run's numbers, and returned the number of its refusal, 0 where it ended.
+/// Runs a goal over a sheet, with at most `allowance` steps and `wanted` answers, whose lines are written into the text; `stored` is the mark for a sheet
+/// stored earlier. Writes the numbers of the run and returns that of its refusal, 0 where it ended.
 #[unsafe(no_mangle)]
 pub extern "C" fn pilvaust_run(
     sheet: &[u8],
@@ -95,7 +95,7 @@ pub extern "C" fn pilvaust_run(
     output::numbers::put_run(pilvaust::run_written(sheet, goal, asked, text), numbers)
 }
 
-// The same with the trace of a recorded session; an empty one is none.
+/// Runs a goal over a sheet as `pilvaust_run` does, with the facts of a recorded session behind the sheet's clauses; an empty trace is none.
 #[unsafe(no_mangle)]
 pub extern "C" fn pilvaust_run_traced(
     sheet: &[u8],

@@ -3,7 +3,7 @@ use mathlib.Core.Path.{◌≡◌, refl}
 use mathlib.Core.List.{List, [], ◌∷◌, map}
 use Rattle.syntax.specs.Quote.{bytes}
 use Rattle.syntax.specs.Bytes.{class_of, in_word}
-use Rattle.syntax.specs.Tokens.{skipped, run_length, word, dash_first, name_kind, variable_kind, neck_kind, open_kind, close_kind, stop_kind, end_kind, token_of, token_from, token_place, token_at}
+use Rattle.syntax.specs.Tokens.{skipped, run_length, word, dash_first, name_kind, variable_kind, neck_kind, open_kind, close_kind, stop_kind, end_kind, token_of_class, token_from, token_place, token_at}
 use Rattle.syntax.specs.declared.Token.{Token}
 use Rattle.lex.specs.Nth.{past_token, past_tokens, nth_token}
 
@@ -24,5 +24,5 @@ expected =
     ∷ []
 
 cases : found ≡ expected
-unfolding found expected nth_token past_tokens past_token token_at token_place token_from token_of dash_first word run_length skipped class_of in_word
+unfolding found expected nth_token past_tokens past_token token_at token_place token_from token_of_class dash_first word run_length skipped class_of in_word
 cases = refl

@@ -15,7 +15,7 @@ use Rattle.syntax.specs.Bytes.{is_blank, is_lower, is_upper, is_digit, class_of}
 use Rattle.syntax.specs.declared.Class.{Class}
 use Rattle.syntax.specs.declared.Class.TheVariants.{Nothing, Blank, Percent, Lower, Upper, Digit, Colon, Single}
 use Rattle.syntax.specs.declared.TokenKind.{TokenKind}
-use Rattle.syntax.specs.Tokens.{Gap, outside, in_comment, Move, on, at_token, move_of, skipped, run_length, word, dash_first, no_token, neck_kind, overlong_kind, token_of, token_place}
+use Rattle.syntax.specs.Tokens.{Gap, outside, in_comment, Move, on, at_token, move_of, skipped, run_length, word, dash_first, no_token, neck_kind, overlong_kind, token_of_class, token_place}
 
 -- what stands from a place on: the byte there and the rest
 pub drop-next : (s : List ℕ) (i : ℕ) → i < length s → drop i s ≡ get_or s i 0 ∷ drop (i + 1) s
@@ -204,15 +204,15 @@ dash-inside [] e = let z : ◌≡◌ {A = Bool} false true = e in let w : ◌≡
 dash-inside (b ∷ r) e = omega arith
 
 pub colon-neck : (s : List ℕ) (i : ℕ) → get_or s (i + 1) 0 ≡ 45
-    → record { kind = neck_kind; at = i; len = 2 } ≡ token_of Colon i (drop (i + 1) s)
-unfolding token_of
+    → record { kind = neck_kind; at = i; len = 2 } ≡ token_of_class Colon i (drop (i + 1) s)
+unfolding token_of_class
 colon-neck s i e = simp (dash-first, e)
 
 pub colon-alone : (s : List ℕ) (i : ℕ) → (get_or s (i + 1) 0 ≡ 45 → ⊥)
-    → record { kind = no_token; at = i; len = 1 } ≡ token_of Colon i (drop (i + 1) s)
-unfolding token_of
+    → record { kind = no_token; at = i; len = 1 } ≡ token_of_class Colon i (drop (i + 1) s)
+unfolding token_of_class
 colon-alone s i e = simp (dash-first, ne_eqb _ _ e)
 
-pub colon-end : (s : List ℕ) (i : ℕ) → length s ≤ i + 1 → record { kind = no_token; at = i; len = 1 } ≡ token_of Colon i (drop (i + 1) s)
-unfolding token_of dash_first
+pub colon-end : (s : List ℕ) (i : ℕ) → length s ≤ i + 1 → record { kind = no_token; at = i; len = 1 } ≡ token_of_class Colon i (drop (i + 1) s)
+unfolding token_of_class dash_first
 colon-end s i le = rw (drop_of_length-le s {i = i + 1} le) refl

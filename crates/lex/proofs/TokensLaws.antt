@@ -11,7 +11,7 @@ use lib.ListN.{length, get_or, drop, length-drop, drop_of_length-le}
 use borrow.Author.Tests.{leb-true}
 use Rattle.syntax.specs.Limits.{word_bytes}
 use Rattle.syntax.specs.Bytes.{class_of, in_word, in_numeral}
-use Rattle.syntax.specs.Tokens.{run_length, word, dash_first, no_token, name_kind, variable_kind, numeral_kind, neck_kind, overlong_kind, end_kind, kind_place, token_of, token_from, token_place, token_at}
+use Rattle.syntax.specs.Tokens.{run_length, word, dash_first, no_token, name_kind, variable_kind, numeral_kind, neck_kind, overlong_kind, end_kind, kind_place, token_of_class, token_from, token_place, token_at}
 use Rattle.syntax.specs.declared.Class.{Class}
 use Rattle.syntax.specs.declared.Class.TheVariants.{Nothing, Blank, Percent, Lower, Upper, Digit, Colon, Single}
 use Rattle.syntax.specs.declared.Token.{Token}
@@ -24,32 +24,32 @@ unfolding token_at token_from
 token-none s from i p le = simp (← p, drop_of_length-le s le)
 
 pub token-by : (s : List ℕ) (from i b : ℕ) (k c : Class) (t : Token) → i ≡ token_place s from → i < length s → b ≡ get_or s i 0 → k ≡ class_of b
-    → k ≡ c → t ≡ token_of c i (drop (i + 1) s) → t ≡ token_at s from
+    → k ≡ c → t ≡ token_of_class c i (drop (i + 1) s) → t ≡ token_at s from
 unfolding token_at token_from
 token-by s from i b k c t p lt g e f q =
-    let there : token_at s from ≡ token_of (class_of (get_or s i 0)) i (drop (i + 1) s) =
+    let there : token_at s from ≡ token_of_class (class_of (get_or s i 0)) i (drop (i + 1) s) =
     ap (λ (j : ℕ). token_from j (drop j s)) (sym p) ∙ ap (token_from i) (drop-next s i lt) in
-    q ∙ (ap (λ (d : Class). token_of d i (drop (i + 1) s)) (sym f ∙ (e ∙ ap class_of g)) ∙ sym there)
+    q ∙ (ap (λ (d : Class). token_of_class d i (drop (i + 1) s)) (sym f ∙ (e ∙ ap class_of g)) ∙ sym there)
 
 -- the tokens by the class of the first byte
-pub of-name : (i : ℕ) (r : List ℕ) → word name_kind i (suc (run_length in_word r)) ≡ token_of Lower i r
-unfolding token_of
+pub of-name : (i : ℕ) (r : List ℕ) → word name_kind i (suc (run_length in_word r)) ≡ token_of_class Lower i r
+unfolding token_of_class
 of-name i r = refl
 
-pub of-variable : (i : ℕ) (r : List ℕ) → word variable_kind i (suc (run_length in_word r)) ≡ token_of Upper i r
-unfolding token_of
+pub of-variable : (i : ℕ) (r : List ℕ) → word variable_kind i (suc (run_length in_word r)) ≡ token_of_class Upper i r
+unfolding token_of_class
 of-variable i r = refl
 
-pub of-numeral : (i : ℕ) (r : List ℕ) → word numeral_kind i (suc (run_length in_numeral r)) ≡ token_of Digit i r
-unfolding token_of
+pub of-numeral : (i : ℕ) (r : List ℕ) → word numeral_kind i (suc (run_length in_numeral r)) ≡ token_of_class Digit i r
+unfolding token_of_class
 of-numeral i r = refl
 
-pub of-single : (kind : TokenKind) (i : ℕ) (r : List ℕ) → record { kind = kind; at = i; len = 1 } ≡ token_of (Single kind) i r
-unfolding token_of
+pub of-single : (kind : TokenKind) (i : ℕ) (r : List ℕ) → record { kind = kind; at = i; len = 1 } ≡ token_of_class (Single kind) i r
+unfolding token_of_class
 of-single kind i r = refl
 
-pub of-none : (c : Class) (i : ℕ) (r : List ℕ) → (c ≡ Nothing) ⊎ ((c ≡ Blank) ⊎ (c ≡ Percent)) → record { kind = no_token; at = i; len = 1 } ≡ token_of c i r
-unfolding token_of
+pub of-none : (c : Class) (i : ℕ) (r : List ℕ) → (c ≡ Nothing) ⊎ ((c ≡ Blank) ⊎ (c ≡ Percent)) → record { kind = no_token; at = i; len = 1 } ≡ token_of_class c i r
+unfolding token_of_class
 of-none Nothing i r h = refl
 of-none Blank i r h = refl
 of-none Percent i r h = refl
@@ -73,8 +73,8 @@ of-none (Single kind) i r (inr (inr e)) = absurd cc
 of-cases : (P : Token → Type 0) (c : Class) (i : ℕ) (r : List ℕ)
     → ((k : TokenKind) (n : ℕ) → kind_place k ≤ 3 → n ≤ length r → P (word k i (suc n)))
     → ((t : Bool) → dash_first r ≡ t → P (record { kind = cond t neck_kind no_token; at = i; len = cond t 2 1 }))
-    → ((k : TokenKind) → P (record { kind = k; at = i; len = 1 })) → P (token_of c i r)
-unfolding token_of
+    → ((k : TokenKind) → P (record { kind = k; at = i; len = 1 })) → P (token_of_class c i r)
+unfolding token_of_class
 of-cases P Lower i r words colon other = words name_kind (run_length in_word r) (omega arith) (run_inside in_word r)
 of-cases P Upper i r words colon other = words variable_kind (run_length in_word r) (omega arith) (run_inside in_word r)
 of-cases P Digit i r words colon other = words numeral_kind (run_length in_numeral r) (omega arith) (run_inside in_numeral r)

@@ -8,14 +8,14 @@ ghost use Rattle.syntax.specs.Bytes.{class_of, in_word, in_numeral};
 use bytes::CLASSES;
 use syntax::Class;
 
-// The class of a byte. A static table is in memory once, and is not copied where it is used.
+/// The class of a byte. The table is a `static`: it is in memory once, and is not copied where it is used.
 pub fn class(b: u8) -> Class
     ensures { result ≡ class_of b }
 {
     CLASSES[b as usize]
 }
 
-// Whether a byte goes on with a name or a variable: letters, digits, underscores.
+/// Whether a byte goes on with a name or a variable: letters, digits, underscores.
 #[tactic(auto, unfolding(syntax::specs::Bytes::in_word))]
 pub fn in_word(b: u8) -> bool
     ensures { result ≡ in_word b }
@@ -23,7 +23,7 @@ pub fn in_word(b: u8) -> bool
     matches!(b, b'a'..=b'z' | b'A'..=b'Z' | b'_' | b'0'..=b'9')
 }
 
-// Whether a byte goes on with a numeral.
+/// Whether a byte goes on with a numeral: digits.
 #[tactic(auto, unfolding(syntax::specs::Bytes::in_numeral))]
 pub fn in_numeral(b: u8) -> bool
     ensures { result ≡ in_numeral b }

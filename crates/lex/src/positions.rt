@@ -7,8 +7,8 @@ ghost use Rattle.lex.specs.Nth.{past_tokens};
 use crate::tokens::{past_at, token_at};
 use syntax::{Token, TokenKind};
 
-// The first token from a position on; past the end of the text, its end.
-pub fn token_of(text: &[u8], at: usize) -> Token
+/// The first token from a position on. Past the end of the text it is the end, at that position.
+pub fn first_token(text: &[u8], at: usize) -> Token
     ensures { result ≡ token_at text.now at }
 {
     if text.len() < at {
@@ -21,7 +21,7 @@ pub fn token_of(text: &[u8], at: usize) -> Token
     token_at(text, at)
 }
 
-// The position just past the first `n` tokens from a position on. At the end of the text the position stays.
+/// The position just past the first `n` tokens from a position on. At the end of the text, and past it, the position stays.
 pub fn past_tokens(text: &[u8], from: usize, n: usize) -> usize
     ensures { result ≡ past_tokens n text.now from }
 {

@@ -2,7 +2,7 @@
 
 ghost use Rattle.std.specs.Prelude.{◌≡◌, ℕ, Bool, suc, ◌+◌, ◌≤◌, ◌<◌, length, drop};
 ghost use Rattle.syntax.specs.declared.Class.TheVariants.{Colon};
-ghost use Rattle.syntax.specs.Tokens.{run_length, word, token_of, token_place};
+ghost use Rattle.syntax.specs.Tokens.{run_length, word, token_of_class, token_place};
 ghost use Rattle.lex.specs.Runs.{Decides};
 
 use crate::classes::class;
@@ -12,14 +12,13 @@ const LINE_FEED: u8 = b'\n';
 
 const DASH: u8 = b'-';
 
-// Where the first token from a position on begins, past blanks and comments; the length where only these are left.
+/// Where the first token from a position on begins, past blanks and comments; the length where only these are left.
 pub fn skip(s: &[u8], from: usize) -> usize
     requires { from ≤ length s.now }
     ensures { result ≡ token_place s.now from }
 {
     let mut at = from;
-    // A turn passes one blank or one comment; both loops are left at the token's first byte, or at the end. (Two loops with labels are a form
-    // asked for in REQUESTS.)
+    // Two loops with labels, as REQUESTS asks: a turn passes one blank or one comment, and both are left at the token's first byte, or at the end.
     'token: loop {
         if s.len() <= at {
             break 'token;
@@ -42,8 +41,7 @@ pub fn skip(s: &[u8], from: usize) -> usize
     at
 }
 
-// Where the bytes that pass a test end, from a position on: those of a word or of a numeral. (By `for`: with `find` over the range, tried and proved,
-// lexing took 0.5 in a hundred more instructions.)
+/// Where the bytes that pass a test end, from a position on: those of a word or of a numeral.
 pub fn run_end<F: Fn(u8) -> bool>(s: &[u8], from: usize, goes_on: F) -> usize
     requires from_in_bounds { from ≤ length s.now }
     requires callable { F.IsAlwaysCallable goes_on }
@@ -58,7 +56,7 @@ pub fn run_end<F: Fn(u8) -> bool>(s: &[u8], from: usize, goes_on: F) -> usize
     s.len()
 }
 
-// The name, variable or numeral that begins at a position and goes on with the bytes that pass a test.
+/// The name, variable or numeral that begins at a position and goes on with the bytes that pass a test; `Overlong` where it has more than `WORD_BYTES` bytes.
 pub fn word_token<F: Fn(u8) -> bool>(s: &[u8], at: usize, kind: TokenKind, goes_on: F) -> Token
     requires at_in_bounds { at < length s.now }
     requires callable { F.IsAlwaysCallable goes_on }
@@ -73,10 +71,10 @@ pub fn word_token<F: Fn(u8) -> bool>(s: &[u8], at: usize, kind: TokenKind, goes_
     Token { kind, at, len }
 }
 
-// What begins with a colon: the pair with its dash, or no token.
+/// What begins with a colon: the pair with its dash, or no token.
 pub fn colon_token(s: &[u8], at: usize) -> Token
     requires { at < length s.now }
-    ensures { result ≡ token_of Colon at (drop (at + 1) s.now) }
+    ensures { result ≡ token_of_class Colon at (drop (at + 1) s.now) }
 {
     match s.get(at + 1) {
         Some(next) if *next == DASH => Token {

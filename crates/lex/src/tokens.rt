@@ -7,7 +7,7 @@ use crate::classes::{class, in_numeral, in_word};
 use crate::scanning::{colon_token, skip, word_token};
 use syntax::{Class, Token, TokenKind};
 
-// The first token from a position on, by the class of its first byte.
+/// The first token from a position on, past blanks and comments, by the class of its first byte; `End` where only these are left.
 pub fn token_at(s: &[u8], from: usize) -> Token
     requires { from ≤ length s.now }
     ensures { result ≡ token_at s.now from }
@@ -34,7 +34,7 @@ pub fn token_at(s: &[u8], from: usize) -> Token
     }
 }
 
-// The position just past the first token from a position on.
+/// The position just past the first token from a position on; at the end of the text, its length.
 pub fn past_at(s: &[u8], from: usize) -> usize
     requires { from ≤ length s.now }
     ensures { result ≡ (token_at s.now from).at + (token_at s.now from).len }

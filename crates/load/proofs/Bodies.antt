@@ -5,7 +5,7 @@ use mathlib.Core.Path.{◌≡◌, sym, ap, ap₂, ◌∙◌, subst, subst⁻¹}
 use mathlib.Core.List.{List, [], ◌∷◌, ◌++◌}
 use lib.ListN.{length, length-append}
 use Rattle.syntax.specs.Words.{node_words, goal_words}
-use Rattle.words.specs.Tables.{Has}
+use Rattle.words.specs.Tables.{WordsAt}
 use Rattle.words.specs.Items.{Item, item_words, items_words, items}
 use Rattle.words.proofs.Items.{body-many, items-stand, first-stands, rest-stand, item_room}
 use Rattle.run_layout.specs.Regions.{loaded_node}
@@ -18,7 +18,7 @@ use Rattle.load.proofs.Parsed.{flat_append, flat-length, body-fits, item_parsed,
 -- What is left of a body's items, written behind what is copied so far, gives the whole.
 pub record Going (table : List ℕ) (many text : ℕ) (before : List ℕ) (at : ℕ) (whole nodes : List ℕ) (p q i : ℕ) : Type 0 where
   pub rest : List Item
-  pub has : Has table p (items_words rest)
+  pub has : WordsAt table p (items_words rest)
   pub count : many ≡ i + length rest
   pub fit : AllFit (items_parsed rest)
   pub same : put_all nodes q (flat_words (flat_all text (items_parsed rest))) ≡ put_all before at whole
@@ -40,7 +40,7 @@ body-begin table from many text nodes at l w = record {
 -- a turn: the item, its nodes, and the body after it
 pub record BodyTurn (table : List ℕ) (many text : ℕ) (before : List ℕ) (at : ℕ) (whole nodes : List ℕ) (p q i : ℕ) : Type 0 where
   pub item : Item
-  pub has : Has table p (item_words item)
+  pub has : WordsAt table p (item_words item)
   pub inside : p < length table
   pub near : q * node_words ≤ (p + 1) * loaded_node + goal_words * loaded_node
   pub run : (next : ℕ) → next ≡ p + length (item_words item) → RunAt table (p + 1) next
@@ -56,10 +56,10 @@ fit-right : (xs ys : List NodeAsRead) → AllFit (xs ++ ys) → AllFit ys
 fit-right [] ys f = f
 fit-right (x ∷ xs) ys f = fit-right xs ys f.1
 
-abbrev item-run : (table : List ℕ) (p : ℕ) (x : Item) → Has table p (item_words x) → AllFit (item_parsed x) → (next : ℕ) → next ≡ p + length (item_words x) → RunAt table (p + 1) next
+abbrev item-run : (table : List ℕ) (p : ℕ) (x : Item) → WordsAt table p (item_words x) → AllFit (item_parsed x) → (next : ℕ) → next ≡ p + length (item_words x) → RunAt table (p + 1) next
 item-run table p x h k next e = record {
   run = item_parsed x;
-  has = (subst (Has table p) (item-words x) h).2;
+  has = (subst (WordsAt table p) (item-words x) h).2;
   ends = (let z : length (item_words x) ≡ suc (length (parsed_words (item_parsed x))) = item-long x in let y : next ≡ (p + 1) + length (parsed_words (item_parsed x)) = omega arith in y);
   fit = k;
 }
@@ -72,15 +72,15 @@ module _ (many text : ℕ) (before : List ℕ) (at : ℕ) (whole nodes : List �
   end-by (x ∷ xs) c s g l = absurd (let z : many ≡ i + suc (length xs) = c in omega arith)
 
 module _ (table : List ℕ) (many text : ℕ) (before : List ℕ) (at : ℕ) (whole nodes : List ℕ) (p q i : ℕ) where
-  turn_by : (xs : List Item) → Has table p (items_words xs) → many ≡ i + length xs → AllFit (items_parsed xs)
+  turn_by : (xs : List Item) → WordsAt table p (items_words xs) → many ≡ i + length xs → AllFit (items_parsed xs)
       → put_all nodes q (flat_words (flat_all text (items_parsed xs))) ≡ put_all before at whole
       → q + length (flat_words (flat_all text (items_parsed xs))) ≡ at + length whole
       → q * node_words ≤ p * loaded_node + goal_words * loaded_node → i < many → BodyTurn table many text before at whole nodes p q i
   unfolding items_parsed
   turn_by [] h c k s g n l = absurd (let z : many ≡ i + 0 = c in omega arith)
   turn_by (x ∷ xs) h c k s g n l =
-      let hx : Has table p (item_words x) = first-stands table p x xs h in
-      let hb : Has table (p + length (item_words x)) (items_words xs) = rest-stand table p x xs h in
+      let hx : WordsAt table p (item_words x) = first-stands table p x xs h in
+      let hb : WordsAt table (p + length (item_words x)) (items_words xs) = rest-stand table p x xs h in
       let c1 : many ≡ i + suc (length xs) = c in
       let whole_is : flat_words (flat_all text (item_parsed x ++ items_parsed xs)) ≡ flat_words (flat_all text (item_parsed x)) ++ flat_words (flat_all text (items_parsed xs)) = flat_append text (item_parsed x) (items_parsed xs) in
       let long : length (flat_words (flat_all text (item_parsed x ++ items_parsed xs))) ≡ length (flat_words (flat_all text (item_parsed x))) + length (flat_words (flat_all text (items_parsed xs))) = ap length whole_is ∙ length-append (flat_words (flat_all text (item_parsed x))) (flat_words (flat_all text (items_parsed xs))) in
@@ -95,7 +95,7 @@ module _ (table : List ℕ) (many text : ℕ) (before : List ℕ) (at : ℕ) (wh
         run = λ next e. item-run table p x hx (fit-left (item_parsed x) (items_parsed xs) k) next e;
         on = λ next after r e m. record {
           rest = xs;
-          has = subst (λ (k : ℕ). Has table k (items_words xs)) (sym e) hb;
+          has = subst (λ (k : ℕ). WordsAt table k (items_words xs)) (sym e) hb;
           count = (let z : many ≡ (i + 1) + length xs = omega arith in z);
           fit = fit-right (item_parsed x) (items_parsed xs) k;
           same = ap₂ (λ (a : List ℕ) (k : ℕ). put_all a k (flat_words (flat_all text (items_parsed xs)))) m.0 m.1

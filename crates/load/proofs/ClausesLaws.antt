@@ -7,7 +7,7 @@ use lib.ListN.{length, get_or}
 use Rattle.syntax.specs.Terms.{term_of, Body, Clause}
 use Rattle.syntax.specs.Words.{atom_words, body_words, body_length, program_clauses}
 use Rattle.machine.specs.Machine.{next_for}
-use Rattle.words.specs.Tables.{Has, NodeInTable}
+use Rattle.words.specs.Tables.{WordsAt, NodeInTable}
 use Rattle.words.proofs.TablesLaws.{has_left, has_right, size_is, term_inside}
 use Rattle.run_layout.specs.Regions.{places, code_words, clause_record, next_literal, literal_from}
 use Rattle.run_layout.specs.Nodes.{Symbol, loaded_words}
@@ -27,11 +27,11 @@ use Rattle.load.proofs.ItemsLaws.{loaded-fits, next-bound}
 
 -- ---- one clause
 
-pub head-stands : (ss : List Symbol) (nodes : List ℕ) (q : ℕ) (cl : Clause) → Has nodes q (clause_nodes ss cl) → Has nodes q (loaded_words ss (term_of cl.head))
+pub head-stands : (ss : List Symbol) (nodes : List ℕ) (q : ℕ) (cl : Clause) → WordsAt nodes q (clause_nodes ss cl) → WordsAt nodes q (loaded_words ss (term_of cl.head))
 unfolding clause_nodes
 head-stands ss nodes q cl h = has_left nodes q (loaded_words ss (term_of cl.head)) (body_nodes ss cl.body) h
 
-body-stand : (ss : List Symbol) (nodes : List ℕ) (q : ℕ) (cl : Clause) → Has nodes q (clause_nodes ss cl) → Has nodes (q + length (loaded_words ss (term_of cl.head))) (body_nodes ss cl.body)
+body-stand : (ss : List Symbol) (nodes : List ℕ) (q : ℕ) (cl : Clause) → WordsAt nodes q (clause_nodes ss cl) → WordsAt nodes (q + length (loaded_words ss (term_of cl.head))) (body_nodes ss cl.body)
 unfolding clause_nodes
 body-stand ss nodes q cl h = has_right nodes q (loaded_words ss (term_of cl.head)) (body_nodes ss cl.body) h
 
@@ -40,7 +40,7 @@ module _ {table : List ℕ} {heads : Heads} {code : List ℕ} {k : ℕ} {at : Pl
     said : Says m.ss table at.read cl
     said = says m.ss table at.read cl w.has
 
-    stands : Has heads.nodes.now at.node (loaded_words m.ss (term_of cl.head))
+    stands : WordsAt heads.nodes.now at.node (loaded_words m.ss (term_of cl.head))
     stands = head-stands m.ss heads.nodes.now at.node cl w.stand
 
     pub head-inside : at.node < length heads.nodes.now
@@ -98,9 +98,9 @@ module _ {table : List ℕ} {heads : Heads} {code : List ℕ} {k : ℕ} {at : Pl
           let fits : at.node + get_or heads.nodes.now (at.node + 1) 0 ≤ length heads.nodes.now = (head-node-fits w).1 in
           record {
             headed = headed-kept long (subst⁻¹ (SameHeads code) n (pair-heads code k at.literal after)) w.headed;
-            has = subst⁻¹ (λ (i : ℕ). Has table i (body_words cl.body)) (f ∙ ap (λ (i : ℕ). at.read + 3 + i) z) (said w).body;
+            has = subst⁻¹ (λ (i : ℕ). WordsAt table i (body_words cl.body)) (f ∙ ap (λ (i : ℕ). at.read + 3 + i) z) (said w).body;
             count = many;
-            stand = subst⁻¹ (λ (i : ℕ). Has heads.nodes.now i (body_nodes m.ss cl.body)) (node-is w) (body-stand m.ss heads.nodes.now at.node cl w.stand);
+            stand = subst⁻¹ (λ (i : ℕ). WordsAt heads.nodes.now i (body_nodes m.ss cl.body)) (node-is w) (body-stand m.ss heads.nodes.now at.node cl w.stand);
             loadable = w.body-loadable;
             node = omega arith;
             low = w.place;

@@ -6,7 +6,7 @@ use mathlib.Core.List.{List, [], ◌∷◌, ◌++◌, append-nil, append_assoc}
 use lib.ListN.{length, get_or, length-append}
 use Rattle.syntax.specs.Terms.{Term, Terms, variable, compound, nil, cons, term_of, Literal, call, equation, truth, falsity, either, Body, done, also, Clause}
 use Rattle.syntax.specs.Words.{term_words, terms_words, atom_words, body_words, body_length, clause_words}
-use Rattle.words.specs.Tables.{Has}
+use Rattle.words.specs.Tables.{WordsAt}
 use Rattle.words.specs.Items.{Item, plain_call, plain_equation, plain_truth, plain_falsity, before_left, before_right, behind, item_words, items_words, literal_items, items}
 use Rattle.words.proofs.TablesLaws.{has_left, has_right, clause-says}
 use Rattle.words.proofs.Items.{body-words, body-many}
@@ -85,11 +85,11 @@ pub record Says (ss : List Symbol) (table : List ℕ) (p : ℕ) (cl : Clause) : 
   pub size : get_or table p 0 ≡ length (clause_words cl)
   pub fits : p + get_or table p 0 ≤ length table
   pub literals : get_or table (p + 2) 0 ≡ body_length cl.body
-  pub head : Has table (p + 3) (atom_words cl.head)
-  pub body : Has table (p + 3 + length (atom_words cl.head)) (body_words cl.body)
+  pub head : WordsAt table (p + 3) (atom_words cl.head)
+  pub body : WordsAt table (p + 3 + length (atom_words cl.head)) (body_words cl.body)
   pub nodes : length (clause_nodes ss cl) * 3 + (body_length cl.body + 3) * 2 ≡ length (clause_words cl) * 2
 
-pub says : (ss : List Symbol) (table : List ℕ) (p : ℕ) (cl : Clause) → Has table p (clause_words cl) → Says ss table p cl
+pub says : (ss : List Symbol) (table : List ℕ) (p : ℕ) (cl : Clause) → WordsAt table p (clause_words cl) → Says ss table p cl
 unfolding clause_words clause_nodes
 says ss table p cl h =
     let o = clause-says table p cl h in

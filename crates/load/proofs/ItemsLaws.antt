@@ -8,7 +8,7 @@ use lib.ListN.{length, get_or, drop, length-drop}
 use Rattle.syntax.specs.Terms.{Term, Atom, Clause}
 use Rattle.syntax.specs.Words.{call_kind, equation_kind, left_kind, behind_kind, item_kind, side_items, program_clauses}
 use Rattle.machine.specs.Machine.{is_for, first_for, next_for}
-use Rattle.words.specs.Tables.{Has, NodeInTable}
+use Rattle.words.specs.Tables.{WordsAt, NodeInTable}
 use Rattle.words.specs.Items.{Item, plain_call, plain_equation, plain_truth, plain_falsity, before_left, before_right, behind, item_words}
 use Rattle.words.proofs.TablesLaws.{has_left, has_end}
 use Rattle.words.proofs.Items.{View, view_truth, view_falsity, view_call, view_equation, view_left, view_right, view_behind, view}
@@ -29,11 +29,11 @@ pub some_words : (ws : List ℕ) (n : ℕ) → n < length ws → ws ≡ [] → �
 some_words ws n l e = let z : length ws ≡ 0 = ap length e in omega arith
 
 -- words that stand from a place inside end inside
-pub end-inside : (nodes : List ℕ) (q : ℕ) (ws : List ℕ) → q ≤ length nodes → Has nodes q ws → q + length ws ≤ length nodes
+pub end-inside : (nodes : List ℕ) (q : ℕ) (ws : List ℕ) → q ≤ length nodes → WordsAt nodes q ws → q + length ws ≤ length nodes
 end-inside nodes q [] l h = let z : q + 0 ≤ length nodes = omega arith in z
 end-inside nodes q (w ∷ ws) l h = has_end nodes q (w ∷ ws) h (some_words (w ∷ ws) 0 (omega arith))
 
-pub loaded-fits : (ss : List Symbol) (nodes : List ℕ) (q : ℕ) (t : Term) → Has nodes q (loaded_words ss t) → NodeInTable nodes q
+pub loaded-fits : (ss : List Symbol) (nodes : List ℕ) (q : ℕ) (t : Term) → WordsAt nodes q (loaded_words ss t) → NodeInTable nodes q
 loaded-fits ss nodes q t h =
     let e : get_or nodes (q + 1) 0 ≡ length (loaded_words ss t) = size_word ss nodes q t h in
     let m : 2 ≤ length (loaded_words ss t) = words-some ss t in
@@ -74,7 +74,7 @@ module _ (table : List ℕ) (p word : ℕ) (e : word ≡ get_or table p 0) where
   plain_by k (view_right q) = absurd (omega arith)
   plain_by k (view_behind q) = absurd (omega arith)
 
-  pub kind-plain : word ≤ equation_kind → (x : Item) → Has table p (item_words x) → word ≡ kind_of x
+  pub kind-plain : word ≤ equation_kind → (x : Item) → WordsAt table p (item_words x) → word ≡ kind_of x
   kind-plain k x h = plain_by k (view table p x h)
 
   module _ (l : equation_kind < word) (kind : ℕ) (f : kind ≡ item_kind word) where
@@ -87,7 +87,7 @@ module _ (table : List ℕ) (p word : ℕ) (e : word ≡ get_or table p 0) where
     split_by k (view_right q) = absurd (omega arith)
     split_by k (view_behind q) = absurd (omega arith)
 
-    pub kind-split : kind ≡ left_kind → (x : Item) → Has table p (item_words x) → split_kind ≡ kind_of x
+    pub kind-split : kind ≡ left_kind → (x : Item) → WordsAt table p (item_words x) → split_kind ≡ kind_of x
     kind-split k x h = split_by k (view table p x h)
 
     jump-by : {x : Item} → (kind ≡ left_kind → ⊥) → View table p x → jump_kind ≡ kind_of x
@@ -99,7 +99,7 @@ module _ (table : List ℕ) (p word : ℕ) (e : word ≡ get_or table p 0) where
     jump-by k (view_right q) = refl
     jump-by k (view_behind q) = refl
 
-    pub kind-jump : (kind ≡ left_kind → ⊥) → (x : Item) → Has table p (item_words x) → jump_kind ≡ kind_of x
+    pub kind-jump : (kind ≡ left_kind → ⊥) → (x : Item) → WordsAt table p (item_words x) → jump_kind ≡ kind_of x
     kind-jump k x h = jump-by k (view table p x h)
 
 -- ---- its third word, one law for each way out
@@ -115,7 +115,7 @@ module _ (table : List ℕ) (heads : Heads) (at : Places) (word : ℕ) (e : word
   none-by k (view_right i) = absurd (omega arith)
   none-by k (view_behind i) = absurd (omega arith)
 
-  inside-by : {x : Item} → word ≡ call_kind → View table at.read x → Has heads.nodes.now at.node (item_nodes m.ss x) → at.node < length heads.nodes.now
+  inside-by : {x : Item} → word ≡ call_kind → View table at.read x → WordsAt heads.nodes.now at.node (item_nodes m.ss x) → at.node < length heads.nodes.now
   unfolding item_nodes
   inside-by k (view_truth i) s = absurd (omega arith)
   inside-by k (view_falsity i) s = absurd (omega arith)
@@ -137,7 +137,7 @@ module _ (table : List ℕ) (heads : Heads) (at : Places) (word : ℕ) (e : word
   call_by k (view_right i) w name r v s = absurd (omega arith)
   call_by k (view_behind i) w name r v s = absurd (omega arith)
 
-  fits_by : {x : Item} → word ≡ equation_kind → View table at.read x → Has heads.nodes.now at.node (item_nodes m.ss x) → NodeInTable heads.nodes.now at.node
+  fits_by : {x : Item} → word ≡ equation_kind → View table at.read x → WordsAt heads.nodes.now at.node (item_nodes m.ss x) → NodeInTable heads.nodes.now at.node
   unfolding item_nodes
   fits_by k (view_truth i) s = absurd (omega arith)
   fits_by k (view_falsity i) s = absurd (omega arith)
@@ -147,7 +147,7 @@ module _ (table : List ℕ) (heads : Heads) (at : Places) (word : ℕ) (e : word
   fits_by k (view_right i) s = absurd (omega arith)
   fits_by k (view_behind i) s = absurd (omega arith)
 
-  equation-by : {x : Item} → word ≡ equation_kind → View table at.read x → Has heads.nodes.now at.node (item_nodes m.ss x) → (r : ℕ) → r ≡ at.node + get_or heads.nodes.now (at.node + 1) 0 → r ≡ other_of m.ss m.sh at.node at.literal x
+  equation-by : {x : Item} → word ≡ equation_kind → View table at.read x → WordsAt heads.nodes.now at.node (item_nodes m.ss x) → (r : ℕ) → r ≡ at.node + get_or heads.nodes.now (at.node + 1) 0 → r ≡ other_of m.ss m.sh at.node at.literal x
   unfolding other_of item_nodes
   equation-by k (view_truth i) s r v = absurd (omega arith)
   equation-by k (view_falsity i) s r v = absurd (omega arith)
@@ -246,7 +246,7 @@ module _ {table : List ℕ} {heads : Heads} {code : List ℕ} {at : Places} wher
   other-bound m (before_right n) w = let z : n ≤ places = w.small in omega (arith, item-low w)
   other-bound m behind w = omega (arith, item-low w)
 
-  module _ {kind other : ℕ} (k : (x : Item) → Has table at.read (item_words x) → kind ≡ kind_of x)
+  module _ {kind other : ℕ} (k : (x : Item) → WordsAt table at.read (item_words x) → kind ≡ kind_of x)
       (o : (m : Meant) (x : Item) → ItemTo m x table heads code at → other ≡ other_of m.ss m.sh at.node at.literal x) where
     pub record-ready : {m : Meant} {x : Item} → ItemTo m x table heads code at
         → (at.literal + 2 < length code) × ((kind < 4294967296) × ((at.node < 4294967296) × (other < 4294967296)))

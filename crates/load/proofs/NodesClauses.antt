@@ -6,8 +6,8 @@ use mathlib.Core.List.{List, [], ◌∷◌, ◌++◌}
 use lib.ListN.{length, get_or, length-append}
 use Rattle.syntax.specs.Terms.{term_of, Clause}
 use Rattle.syntax.specs.Words.{clause_start, term_words, atom_words, body_words, body_length, clause_words, clauses_words, node_words, goal_words, program_bytes}
-use Rattle.marks.specs.Standing.{ClausesSpelt, clause_stands}
-use Rattle.words.specs.Tables.{Has, NodeInTable}
+use Rattle.marks.specs.Spelt.{ClausesSpelt, clause_stands}
+use Rattle.words.specs.Tables.{WordsAt, NodeInTable}
 use Rattle.words.proofs.TablesLaws.{has_left, has_right, Node, size_is, term_inside, clause-says}
 use Rattle.run_layout.specs.Regions.{loaded_node}
 use Rattle.load.specs.Flat.{parsed_words, term_parsed, body_parsed, clause_parsed, clauses_parsed, flat_words, flat_all, put_all, RunAt, BodyHere, ClauseHere, ClausesHere}
@@ -42,8 +42,8 @@ pub clause-parts : {table : List ℕ} {p : ℕ} (w : ClauseHere table p) → Cla
 clause-parts {table} {p} w =
     let o : Node table p (3 + length (atom_words w.clause.head ++ body_words w.clause.body)) w.clause.variables (body_length w.clause.body) (atom_words w.clause.head ++ body_words w.clause.body) = (clause-says table p w.clause w.has).words in
     let i : p + 2 < length table = o.inside in
-    let hh : Has table (p + 3) (term_words (term_of w.clause.head)) = has_left table (p + 3) (term_words (term_of w.clause.head)) (body_words w.clause.body) o.rest in
-    let hb : Has table (p + 3 + length (term_words (term_of w.clause.head))) (body_words w.clause.body) = has_right table (p + 3) (term_words (term_of w.clause.head)) (body_words w.clause.body) o.rest in
+    let hh : WordsAt table (p + 3) (term_words (term_of w.clause.head)) = has_left table (p + 3) (term_words (term_of w.clause.head)) (body_words w.clause.body) o.rest in
+    let hb : WordsAt table (p + 3 + length (term_words (term_of w.clause.head))) (body_words w.clause.body) = has_right table (p + 3) (term_words (term_of w.clause.head)) (body_words w.clause.body) o.rest in
     let z : length (term_words (term_of w.clause.head)) ≡ length (parsed_words (term_parsed (term_of w.clause.head))) = head-long w.clause in
     let size : get_or table (p + 3 + 1) 0 ≡ length (term_words (term_of w.clause.head)) = size_is table (p + 3) (term_of w.clause.head) hh in
     let third : length (flat_words (flat_all 0 (term_parsed (term_of w.clause.head)))) * 3 ≡ length (parsed_words (term_parsed (term_of w.clause.head))) * 2 = flat-length 0 (term_parsed (term_of w.clause.head)) in
@@ -53,7 +53,7 @@ clause-parts {table} {p} w =
       fits = term_inside table (p + clause_start) (term_of w.clause.head) hh;
       run = λ stop e. record {
         run = term_parsed (term_of w.clause.head);
-        has = subst (Has table (p + 3)) (term-words (term_of w.clause.head)) hh;
+        has = subst (WordsAt table (p + 3)) (term-words (term_of w.clause.head)) hh;
         ends = (let y : stop ≡ p + 3 + length (parsed_words (term_parsed (term_of w.clause.head))) = omega arith in y);
         fit = term_fits w.text w.short (term_of w.clause.head) w.stands.head;
       };
@@ -61,7 +61,7 @@ clause-parts {table} {p} w =
         text = w.text;
         short = w.short;
         body = w.clause.body;
-        has = subst (λ (k : ℕ). Has table k (body_words w.clause.body)) (let y : p + 3 + length (term_words (term_of w.clause.head)) ≡ stop = omega arith in y) hb;
+        has = subst (λ (k : ℕ). WordsAt table k (body_words w.clause.body)) (let y : p + 3 + length (term_words (term_of w.clause.head)) ≡ stop = omega arith in y) hb;
         count = l ∙ o.third;
         stands = w.stands.body;
       };
@@ -107,7 +107,7 @@ pub record Clausing (table : List ℕ) (clauses : ℕ) (before : List ℕ) (at :
   pub source : List ℕ
   pub short : length source ≤ program_bytes
   pub rest : List Clause
-  pub has : Has table p (clauses_words rest)
+  pub has : WordsAt table p (clauses_words rest)
   pub count : clauses ≡ i + length rest
   pub stand : ClausesSpelt source rest
   pub same : put_all nodes q (flat_words (flat_all 0 (clauses_parsed rest))) ≡ put_all before at whole
@@ -143,15 +143,15 @@ module _ (clauses : ℕ) (before : List ℕ) (at : ℕ) (whole nodes : List ℕ)
   end-by (x ∷ b) c s g l = absurd (let z : clauses ≡ i + suc (length b) = c in omega arith)
 
 module _ {table : List ℕ} {clauses : ℕ} {before : List ℕ} {at : ℕ} {whole nodes : List ℕ} {p q i : ℕ} where
-  turn_by : (source : List ℕ) → length source ≤ program_bytes → (cs : List Clause) → Has table p (clauses_words cs) → clauses ≡ i + length cs → ClausesSpelt source cs
+  turn_by : (source : List ℕ) → length source ≤ program_bytes → (cs : List Clause) → WordsAt table p (clauses_words cs) → clauses ≡ i + length cs → ClausesSpelt source cs
       → put_all nodes q (flat_words (flat_all 0 (clauses_parsed cs))) ≡ put_all before at whole
       → q + length (flat_words (flat_all 0 (clauses_parsed cs))) ≡ at + length whole
       → q * node_words ≤ p * loaded_node + goal_words * loaded_node → i < clauses → ClausesTurn table clauses before at whole nodes p q i
   unfolding clauses_words clauses_parsed
   turn_by source short [] h c k s g n l = absurd (let z : clauses ≡ i + 0 = c in omega arith)
   turn_by source short (x ∷ b) h c (clause_stands kx kb) s g n l =
-      let hx : Has table p (clause_words x) = has_left table p (clause_words x) (clauses_words b) h in
-      let hb : Has table (p + length (clause_words x)) (clauses_words b) = has_right table p (clause_words x) (clauses_words b) h in
+      let hx : WordsAt table p (clause_words x) = has_left table p (clause_words x) (clauses_words b) h in
+      let hb : WordsAt table (p + length (clause_words x)) (clauses_words b) = has_right table p (clause_words x) (clauses_words b) h in
       let c1 : clauses ≡ i + suc (length b) = c in
       let whole_is : flat_words (flat_all 0 (clause_parsed x ++ clauses_parsed b)) ≡ flat_words (flat_all 0 (clause_parsed x)) ++ flat_words (flat_all 0 (clauses_parsed b)) = flat_append 0 (clause_parsed x) (clauses_parsed b) in
       let long : length (flat_words (flat_all 0 (clause_parsed x ++ clauses_parsed b))) ≡ length (flat_words (flat_all 0 (clause_parsed x))) + length (flat_words (flat_all 0 (clauses_parsed b))) = ap length whole_is ∙ length-append (flat_words (flat_all 0 (clause_parsed x))) (flat_words (flat_all 0 (clauses_parsed b))) in
@@ -165,7 +165,7 @@ module _ {table : List ℕ} {clauses : ℕ} {before : List ℕ} {at : ℕ} {whol
           source = source;
           short = short;
           rest = b;
-          has = subst (λ (k : ℕ). Has table k (clauses_words b)) (sym e) hb;
+          has = subst (λ (k : ℕ). WordsAt table k (clauses_words b)) (sym e) hb;
           count = (let z : clauses ≡ (i + 1) + length b = omega arith in z);
           stand = kb;
           same = ap₂ (λ (a : List ℕ) (k : ℕ). put_all a k (flat_words (flat_all 0 (clauses_parsed b)))) m.0 m.1

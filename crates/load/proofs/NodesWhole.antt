@@ -7,7 +7,7 @@ use lib.Dec.{T}
 use lib.ListN.{length, length-append}
 use Rattle.syntax.specs.Limits.{goal_bytes}
 use Rattle.syntax.specs.Words.{program_words, goal_words, program_bytes}
-use Rattle.words.specs.Tables.{Has}
+use Rattle.words.specs.Tables.{WordsAt}
 use Rattle.words.proofs.TablesLaws.{has-inside}
 use Rattle.run_layout.specs.Regions.{loaded_node, most_nodes, nodes_words}
 use Rattle.run_layout.specs.Nodes.{Symbol, name_of_symbol}
@@ -27,12 +27,12 @@ use Rattle.load.proofs.Terms.{words_append, numbered-append, inside-append, AllL
 
 -- ---- words within a table
 
-has_within : (table ws : List ℕ) → Has table 0 ws → length ws ≤ length table
+has_within : (table ws : List ℕ) → WordsAt table 0 ws → length ws ≤ length table
 has_within table [] h = omega arith
 has_within table (w ∷ ws) h = let z : 0 + length (w ∷ ws) ≤ length table = has-inside table 0 (w ∷ ws) h (omega arith) in let y : length (w ∷ ws) ≤ length table = omega arith in y
 
 -- the words of nodes that come of words in a table
-few : {most : ℕ} (table ws : List ℕ) (text : ℕ) (xs : List NodeAsRead) → length (parsed_words xs) ≤ length ws → Has table 0 ws → length table ≤ most → length (flat_words (flat_all text xs)) * 3 ≤ most * 2
+few : {most : ℕ} (table ws : List ℕ) (text : ℕ) (xs : List NodeAsRead) → length (parsed_words xs) ≤ length ws → WordsAt table 0 ws → length table ≤ most → length (flat_words (flat_all text xs)) * 3 ≤ most * 2
 few table ws text xs l h m = omega (arith, flat-length text xs, has_within table ws h)
 
 numbered-long : (sheet goal : List ℕ) (ss : List Symbol) (xs : List Flat) → length (flat_words (numbered_all sheet goal ss xs)) ≡ length (flat_words xs)
@@ -132,7 +132,7 @@ module _ (sheet table : List ℕ) (clauses : ℕ) (goal goals : List ℕ) (liter
       abbrev pub copied : Copied sheet goal second stop
       copied = record {
         flats = flat_all 1 (body_parsed w.tables.g.body) ++ flat_all 0 (clauses_parsed w.tables.sh.clauses);
-        has = subst (λ (l : List ℕ). Has l 0 (flat_words all-flats)) (sym second_is) (has-written nodes 0 (flat_words all-flats) (omega (arith, stop_is, stop-few, w.nodes_room)));
+        has = subst (λ (l : List ℕ). WordsAt l 0 (flat_words all-flats)) (sym second_is) (has-written nodes 0 (flat_words all-flats) (omega (arith, stop_is, stop-few, w.nodes_room)));
         ends = stop_is;
         inside = inside-append sheet goal (flat_all 1 (body_parsed w.tables.g.body)) (flat_all 0 (clauses_parsed w.tables.sh.clauses))
             (body_inside sheet goal [] 1 goal (let z : 1 ≤ 1 = omega arith in z) reads-goal w.tables.g.body w.tables.goal_stands)
@@ -167,8 +167,8 @@ module _ (sheet table : List ℕ) (clauses : ℕ) (goal goals : List ℕ) (liter
       loaded third after r n = record {
         ss = all-symbols;
         names = names sheet goal after r all-symbols n.symbols_are n.listed;
-        nodes_stand = subst (Has third 0) (sym program-is)
-            (subst (λ (l : List ℕ). Has l 0 (flat_words (numbered_all sheet goal all-symbols all-flats))) (sym n.nodes_are)
+        nodes_stand = subst (WordsAt third 0) (sym program-is)
+            (subst (λ (l : List ℕ). WordsAt l 0 (flat_words (numbered_all sheet goal all-symbols all-flats))) (sym n.nodes_are)
             (has-written second 0 (flat_words (numbered_all sheet goal all-symbols all-flats)) (omega (arith, numbered-long sheet goal all-symbols all-flats, stop_is, stop-few, second-long, w.nodes_room))));
         goal_loadable = goal-fine.0;
         clauses-loadable = clauses-are-fine.0;

@@ -7,8 +7,8 @@ use lib.ListN.{length, replicate, length-replicate}
 use Rattle.syntax.specs.Limits.{goal_bytes}
 use Rattle.syntax.specs.Terms.{truth, done, also}
 use Rattle.syntax.specs.Words.{literal_words, body_length, body_words, clauses_words, program_words, goal_words, program_bytes}
-use Rattle.marks.specs.Standing.{no_clauses, truth_stands, done_stands, also_stands}
-use Rattle.words.specs.Tables.{Has}
+use Rattle.marks.specs.Spelt.{no_clauses, truth_stands, done_stands, also_stands}
+use Rattle.words.specs.Tables.{WordsAt}
 use Rattle.run_layout.specs.Regions.{nodes_words}
 use Rattle.load.specs.Loading.{Loadable}
 
@@ -20,11 +20,11 @@ room-long : length room ≡ nodes_words
 unfolding room
 room-long = length-replicate {A = ℕ} nodes_words 0
 
-has-none : Has [] 0 (clauses_words [])
+has-none : WordsAt [] 0 (clauses_words [])
 unfolding clauses_words
 has-none = tt
 
-has-truth : Has (0 ∷ []) 0 (body_words (also truth done))
+has-truth : WordsAt (0 ∷ []) 0 (body_words (also truth done))
 unfolding body_words literal_words
 has-truth = (let l : 0 < 1 = omega arith in l, refl, tt)
 

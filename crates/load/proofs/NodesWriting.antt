@@ -5,7 +5,7 @@ use mathlib.Core.Path.{◌≡◌, refl, ap, ◌∙◌}
 use mathlib.Core.List.{List, [], ◌∷◌, ◌++◌}
 use lib.ListN.{length, get_or, set, length-set}
 use lib.Seq.{get_or-set_same, get_or-set_other}
-use Rattle.words.specs.Tables.{Has}
+use Rattle.words.specs.Tables.{WordsAt}
 use Rattle.load.specs.Flat.{put_all}
 
 pub length-written : (l : List ℕ) (q : ℕ) (ws : List ℕ) → length (put_all l q ws) ≡ length l
@@ -36,7 +36,7 @@ written-before l q [] p h = refl
 written-before l q (w ∷ ws) p h = written-before (set l q w) (q + 1) ws p (omega arith) ∙ get_or-set_other l q p w 0 (λ e. let k : p ≡ q = e in omega arith)
 
 -- they stand where they were written
-pub has-written : (l : List ℕ) (q : ℕ) (ws : List ℕ) → q + length ws ≤ length l → Has (put_all l q ws) q ws
+pub has-written : (l : List ℕ) (q : ℕ) (ws : List ℕ) → q + length ws ≤ length l → WordsAt (put_all l q ws) q ws
 unfolding put_all
 has-written l q [] h = tt
 has-written l q (w ∷ ws) h =

@@ -12,7 +12,7 @@ use borrow.Author.Tests.{lt-ltb, le-ltb}
 use Rattle.syntax.specs.Words.{first_name}
 use Rattle.run_layout.specs.Regions.{nodes_words}
 use Rattle.machine.proofs.Tests.{or_right}
-use Rattle.words.specs.Tables.{Has}
+use Rattle.words.specs.Tables.{WordsAt}
 use Rattle.run_layout.specs.Nodes.{Symbol, symbol_of, is_listed}
 use Rattle.load.specs.Flat.{Flat, flat_words, flat_symbol, flat_arity, put_all}
 use Rattle.load.specs.Symbols.{word_name, symbols_of, SymbolsListed}
@@ -136,7 +136,7 @@ module _ (sheet goal : List ℕ) where
   -- What is left of the nodes, numbered by the symbols of all, gives the whole.
   pub record Numbering (flats : List Flat) (before nodes : List ℕ) (stop p : ℕ) (ss : List Symbol) : Type 0 where
     pub rest : List Flat
-    pub has : Has nodes p (flat_words rest)
+    pub has : WordsAt nodes p (flat_words rest)
     pub ends : stop ≡ p + length (flat_words rest)
     pub inside : AllInside sheet goal rest
     pub all : with_all sheet goal ss rest ≡ with_all sheet goal [] flats
@@ -163,7 +163,7 @@ module _ (sheet goal : List ℕ) where
     pub on : (after : List ℕ) (us : List Symbol) → after ≡ set nodes p (numbered_what sheet goal (with_node sheet goal ss (get_or nodes p 0)) (get_or nodes p 0)) → us ≡ with_node sheet goal ss (get_or nodes p 0)
         → Numbering flats before after stop (p + 2) us
 
-has-frame : (nodes : List ℕ) (p u q : ℕ) (ws : List ℕ) → p < q → Has nodes q ws → Has (set nodes p u) q ws
+has-frame : (nodes : List ℕ) (p u q : ℕ) (ws : List ℕ) → p < q → WordsAt nodes q ws → WordsAt (set nodes p u) q ws
 has-frame nodes p u q [] l h = tt
 has-frame nodes p u q (w ∷ ws) l h = (
   subst (λ (k : ℕ). q < k) (sym (length-set nodes p u)) h.0,
@@ -181,7 +181,7 @@ module _ (sheet goal : List ℕ) (flats : List Flat) (before nodes : List ℕ) (
   abbrev whole : List Symbol
   whole = with_all sheet goal [] flats
 
-  turn_by : (rest : List Flat) → Has nodes p (flat_words rest) → stop ≡ p + length (flat_words rest) → AllInside sheet goal rest → with_all sheet goal ss rest ≡ whole
+  turn_by : (rest : List Flat) → WordsAt nodes p (flat_words rest) → stop ≡ p + length (flat_words rest) → AllInside sheet goal rest → with_all sheet goal ss rest ≡ whole
       → put_all nodes p (flat_words (numbered_all sheet goal whole rest)) ≡ put_all before 0 (flat_words (numbered_all sheet goal whole flats))
       → p < stop → NumberTurn sheet goal flats before nodes stop p ss
   unfolding flat_words numbered_all with_all
@@ -192,7 +192,7 @@ module _ (sheet goal : List ℕ) (flats : List Flat) (before nodes : List ℕ) (
       let far : p + 1 < length nodes = h.2.0 in
       let ends : stop ≡ p + suc (suc (length (flat_words xs))) = e in
       let two : (p + 1) + 1 ≡ p + 2 = omega arith in
-      let more : Has nodes (p + 2) (flat_words xs) = subst (λ (k : ℕ). Has nodes k (flat_words xs)) two h.2.2 in
+      let more : WordsAt nodes (p + 2) (flat_words xs) = subst (λ (k : ℕ). WordsAt nodes k (flat_words xs)) two h.2.2 in
       record {
         room = omega arith;
         within = omega arith;
@@ -204,7 +204,7 @@ module _ (sheet goal : List ℕ) (flats : List Flat) (before nodes : List ℕ) (
             ∙ (sym (number-stays sheet goal ss xs x.what) ∙ ap (λ (k : List Symbol). numbered_what sheet goal k x.what) a) in
             record {
               rest = xs;
-              has = subst (λ (l : List ℕ). Has l (p + 2) (flat_words xs)) (sym ea) (has-frame nodes p (numbered_what sheet goal (with_node sheet goal ss (get_or nodes p 0)) (get_or nodes p 0)) (p + 2) (flat_words xs) (omega arith) more);
+              has = subst (λ (l : List ℕ). WordsAt l (p + 2) (flat_words xs)) (sym ea) (has-frame nodes p (numbered_what sheet goal (with_node sheet goal ss (get_or nodes p 0)) (get_or nodes p 0)) (p + 2) (flat_words xs) (omega arith) more);
               ends = (let z : stop ≡ (p + 2) + length (flat_words xs) = omega arith in z);
               inside = i.1;
               all = all;

@@ -7,7 +7,7 @@ use lib.ListN.{length, length-append}
 use Rattle.syntax.specs.Limits.{word_bytes, arguments, variables}
 use Rattle.syntax.specs.Terms.{Term, Terms, variable, compound, nil, cons, arity, term_of, Literal, Body, call, equation, truth, falsity, either, done, also}
 use Rattle.syntax.specs.Words.{truth_kind, falsity_kind, call_kind, equation_kind, left_kind, right_kind, behind_kind, marker, functor, term_words, terms_words, body_words, body_length, program_bytes}
-use Rattle.marks.specs.Standing.{TermSpelt, TermsSpelt, stands_variable, stands_compound, stand_nil, stand_cons, LiteralSpelt, call_stands, equation_stands, truth_stands, falsity_stands, either_stands, BodySpelt, done_stands, also_stands}
+use Rattle.marks.specs.Spelt.{TermSpelt, TermsSpelt, stands_variable, stands_compound, stand_nil, stand_cons, LiteralSpelt, call_stands, equation_stands, truth_stands, falsity_stands, either_stands, BodySpelt, done_stands, also_stands}
 use Rattle.words.specs.Items.{Item, plain_call, plain_equation, plain_truth, plain_falsity, before_left, before_right, behind, item_words, items_words, literal_items, items}
 use Rattle.words.proofs.Items.{body-words}
 use Rattle.load.specs.Flat.{NodeAsRead, parsed_words, term_parsed, terms_parsed, literal_parsed, body_parsed, flat_words, flat_what, flat_all, AllFit}

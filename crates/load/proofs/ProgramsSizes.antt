@@ -6,7 +6,7 @@ use mathlib.Core.List.{List, []}
 use lib.ListN.{length, get_or}
 use Rattle.syntax.specs.Terms.{Literal, call, equation, truth, falsity, either, Body, done, also, literals_in, literals_of, Clause}
 use Rattle.syntax.specs.Words.{literal_length, body_length, clause_words}
-use Rattle.words.specs.Tables.{Has}
+use Rattle.words.specs.Tables.{WordsAt}
 use Rattle.machine.specs.Low.{LiteralFilled, BodyFilled, BodyShort}
 use Rattle.run_layout.specs.Regions.{most_items}
 use Rattle.run_layout.specs.Nodes.{Symbol}
@@ -40,7 +40,7 @@ few-items (also x b) s = omega (arith, literal-few x s.filled.0, body-most b s.f
 
 -- ---- how many words a clause's nodes take
 
-module _ (table : List ℕ) (p : ℕ) (cl : Clause) (h : Has table p (clause_words cl)) (size literals : ℕ) (e : size ≡ get_or table p 0) (m : literals ≡ get_or table (p + 2) 0) where
+module _ (table : List ℕ) (p : ℕ) (cl : Clause) (h : WordsAt table p (clause_words cl)) (size literals : ℕ) (e : size ≡ get_or table p 0) (m : literals ≡ get_or table (p + 2) 0) where
   pub clause-marks : literals + 3 ≤ size
   clause-marks =
       let s : Says [] table p cl = says [] table p cl h in
@@ -49,7 +49,7 @@ module _ (table : List ℕ) (p : ℕ) (cl : Clause) (h : Has table p (clause_wor
       let d : length (clause_nodes [] cl) * 3 + (body_length cl.body + 3) * 2 ≡ length (clause_words cl) * 2 = s.nodes in
       omega arith
 
-pub clause-size : (ss : List Symbol) (table : List ℕ) (p : ℕ) (cl : Clause) → Has table p (clause_words cl) → (size literals : ℕ) → size ≡ get_or table p 0 → literals ≡ get_or table (p + 2) 0
+pub clause-size : (ss : List Symbol) (table : List ℕ) (p : ℕ) (cl : Clause) → WordsAt table p (clause_words cl) → (size literals : ℕ) → size ≡ get_or table p 0 → literals ≡ get_or table (p + 2) 0
     → (r : ℕ) → ((n : ℕ) → n * 3 + (literals + 3) * 2 ≡ size * 2 → r ≡ n) → r ≡ length (clause_nodes ss cl)
 clause-size ss table p cl h size literals e m r f =
     let s : Says ss table p cl = says ss table p cl h in

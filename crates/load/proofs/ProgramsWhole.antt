@@ -13,7 +13,7 @@ use Rattle.machine.specs.Machine.{clause_at}
 use Rattle.machine.specs.Low.{ClausesShort}
 use Rattle.run_layout.specs.Limits.{ClausesLimited, body_records}
 use Rattle.machine.proofs.Tests.{some-none}
-use Rattle.words.specs.Tables.{Has}
+use Rattle.words.specs.Tables.{WordsAt}
 use Rattle.run_layout.specs.Nodes.{Symbol, TermLoaded}
 use Rattle.run_layout.specs.Program.{body_nodes, clauses_nodes, program_nodes, head_at, body_at, BodyLoaded, ClauseLoaded, Program}
 use Rattle.words.proofs.TablesLaws.{has_left, has_right}
@@ -39,13 +39,13 @@ clauses-short : (cls : List Clause) → ClausesLimited cls → ClausesShort cls
 clauses-short [] l = tt
 clauses-short (cl ∷ cls) l = (l.0.body.short, clauses-short cls l.1)
 
-program-nodes : (ss : List Symbol) (nodes : List ℕ) (b : Body) (cls : List Clause) → Has nodes 0 (body_nodes ss b ++ clauses_nodes ss cls)
-    → Has nodes 0 (body_nodes ss b) × Has nodes (length (body_nodes ss b)) (clauses_nodes ss cls) × (length (body_nodes ss b) + length (clauses_nodes ss cls) ≤ length nodes)
+program-nodes : (ss : List Symbol) (nodes : List ℕ) (b : Body) (cls : List Clause) → WordsAt nodes 0 (body_nodes ss b ++ clauses_nodes ss cls)
+    → WordsAt nodes 0 (body_nodes ss b) × WordsAt nodes (length (body_nodes ss b)) (clauses_nodes ss cls) × (length (body_nodes ss b) + length (clauses_nodes ss cls) ≤ length nodes)
 program-nodes ss nodes b cls h =
     let e : length (body_nodes ss b ++ clauses_nodes ss cls) ≡ length (body_nodes ss b) + length (clauses_nodes ss cls) = length-append (body_nodes ss b) (clauses_nodes ss cls) in
     let l : 0 + length (body_nodes ss b ++ clauses_nodes ss cls) ≤ length nodes = end-inside nodes 0 (body_nodes ss b ++ clauses_nodes ss cls) (omega arith) h in (
       has_left nodes 0 (body_nodes ss b) (clauses_nodes ss cls) h,
-      subst (λ (i : ℕ). Has nodes i (clauses_nodes ss cls)) (let z : 0 + length (body_nodes ss b) ≡ length (body_nodes ss b) = omega arith in z) (has_right nodes 0 (body_nodes ss b) (clauses_nodes ss cls) h),
+      subst (λ (i : ℕ). WordsAt nodes i (clauses_nodes ss cls)) (let z : 0 + length (body_nodes ss b) ≡ length (body_nodes ss b) = omega arith in z) (has_right nodes 0 (body_nodes ss b) (clauses_nodes ss cls) h),
       omega arith,
     )
 
@@ -59,7 +59,7 @@ module _ {table : List ℕ} {clauses : ℕ} {goals : List ℕ} {literals : ℕ} 
   pub goal-at : ItemsAt goals 0 literals w.g.body
   goal-at = record { has = w.has_goal; many = w.literals_count }
 
-  parts : Has nodes.now 0 (body_nodes w.ss w.g.body) × Has nodes.now (length (body_nodes w.ss w.g.body)) (clauses_nodes w.ss w.sh.clauses) × (length (body_nodes w.ss w.g.body) + length (clauses_nodes w.ss w.sh.clauses) ≤ length nodes.now)
+  parts : WordsAt nodes.now 0 (body_nodes w.ss w.g.body) × WordsAt nodes.now (length (body_nodes w.ss w.g.body)) (clauses_nodes w.ss w.sh.clauses) × (length (body_nodes w.ss w.g.body) + length (clauses_nodes w.ss w.sh.clauses) ≤ length nodes.now)
   unfolding program_nodes
   parts = program-nodes w.ss nodes.now w.g.body w.sh.clauses w.nodes_stand
 
@@ -79,8 +79,8 @@ module _ {table : List ℕ} {clauses : ℕ} {goals : List ℕ} {literals : ℕ} 
           let c : literals ≡ body_length w.g.body = w.literals_count in
           z (length (body_nodes w.ss w.g.body)) (omega arith)
 
-      clauses_stand : Has nodes.now node (clauses_nodes w.ss w.sh.clauses)
-      clauses_stand = subst⁻¹ (λ (i : ℕ). Has nodes.now i (clauses_nodes w.ss w.sh.clauses)) node-is parts.1
+      clauses_stand : WordsAt nodes.now node (clauses_nodes w.ss w.sh.clauses)
+      clauses_stand = subst⁻¹ (λ (i : ℕ). WordsAt nodes.now i (clauses_nodes w.ss w.sh.clauses)) node-is parts.1
 
       pub heads-ready : HeadsTo w.ss w.sh.clauses table 0 node clauses code 1
       heads-ready =

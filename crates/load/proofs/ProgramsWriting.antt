@@ -15,7 +15,7 @@ use Rattle.words.proofs.Items.{literal-many, body-many}
 use Rattle.run_layout.specs.Regions.{body_end_kind, split_kind, jump_kind, bodies, next_literal, clause_record, literal_from}
 use Rattle.machine.specs.Machine.{next_for, nth_clause}
 use Rattle.machine.proofs.Tests.{both, some-eq, some-none}
-use Rattle.words.specs.Tables.{Has}
+use Rattle.words.specs.Tables.{WordsAt}
 use Rattle.run_layout.specs.Nodes.{Symbol, loaded_words, is_loadable, TermLoaded}
 use Rattle.run_layout.specs.Limits.{LiteralLimited, EachLimited, ClausesLimited, body_records}
 use Rattle.run_layout.specs.Program.{literal_nodes, body_nodes, clause_nodes, clauses_nodes, literal_loadable, body_loadable, clauses_loadable, body_at, after_at, record_kind, record_place, other_at, RefersTo, right_of, LiteralLoaded, ItemsLoaded, BodyLoaded}
@@ -146,7 +146,7 @@ module _ (ss : List Symbol) (sh : Sheet) (start : ℕ) where
     mutual
       unfolding literal_items literal_nodes literal_loadable literal_length item_nodes other_of
 
-      literal-stands : (x : Literal) (n q : ℕ) → Records ss sh code start n q (literal_items x) → Has nodes q (literal_nodes ss x) → T (literal_loadable ss x) → LiteralLimited x
+      literal-stands : (x : Literal) (n q : ℕ) → Records ss sh code start n q (literal_items x) → WordsAt nodes q (literal_nodes ss x) → T (literal_loadable ss x) → LiteralLimited x
           → LiteralLoaded ss sh nodes code start n x
       literal-stands truth n q r h k s = r.0.kind
       literal-stands falsity n q r h k s = r.0.kind
@@ -178,7 +178,7 @@ module _ (ss : List Symbol) (sh : Sheet) (start : ℕ) where
                 (literal_from start (n + (3 + (body_length y + body_length z)))) (omega arith) (omega arith) last.0.kind last.0.other,
           )
 
-      items-stand : (b : Body) (n q : ℕ) → Records ss sh code start n q (items b) → Has nodes q (body_nodes ss b) → T (body_loadable ss b) → EachLimited b → ItemsLoaded ss sh nodes code start n b
+      items-stand : (b : Body) (n q : ℕ) → Records ss sh code start n q (items b) → WordsAt nodes q (body_nodes ss b) → T (body_loadable ss b) → EachLimited b → ItemsLoaded ss sh nodes code start n b
       items-stand done n q r h k s = tt
       items-stand (also x b) n q r h k s =
           let ok : T (literal_loadable ss x) × T (body_loadable ss b) = both (literal_loadable ss x) (body_loadable ss b) k in
@@ -190,7 +190,7 @@ module _ (ss : List Symbol) (sh : Sheet) (start : ℕ) where
                 (has_right nodes q (literal_nodes ss x) (body_nodes ss b) h) ok.1 s.1,
           )
 
-    pub body-stands : (q : ℕ) (b : Body) → Written ss sh code start q b → Has nodes q (body_nodes ss b) → T (body_loadable ss b) → EachLimited b → BodyLoaded ss sh nodes code start b
+    pub body-stands : (q : ℕ) (b : Body) → Written ss sh code start q b → WordsAt nodes q (body_nodes ss b) → T (body_loadable ss b) → EachLimited b → BodyLoaded ss sh nodes code start b
     body-stands q b w h k s =
         let r : next_literal (literal_from start (body_length b)) ≤ length code = w.room in
         record { room = omega arith; items = items-stand b 0 q w.records h k s; ends = w.ends }
@@ -207,7 +207,7 @@ module _ (ss : List Symbol) where
   heads-below q (cl ∷ cls) code k i l =
       heads-below (q + length (clause_nodes ss cl)) cls (set code (clause_record k) q) (k + 1) i (omega arith) ∙ get_or-set_other code (clause_record k) i q 0 (λ e. omega arith)
 
-  pub heads-written : (nodes : List ℕ) (q : ℕ) (cls : List Clause) (code : List ℕ) (k : ℕ) → Has nodes q (clauses_nodes ss cls) → T (clauses_loadable ss cls) → ClausesLimited cls
+  pub heads-written : (nodes : List ℕ) (q : ℕ) (cls : List Clause) (code : List ℕ) (k : ℕ) → WordsAt nodes q (clauses_nodes ss cls) → T (clauses_loadable ss cls) → ClausesLimited cls
       → k + length cls ≤ program_clauses + 1 → bodies ≤ length code → HeadsLoaded ss nodes (put_heads ss q cls code k) k cls
   unfolding put_heads clauses_nodes clauses_loadable clause_nodes
   heads-written nodes q [] code k h t s l r = tt
@@ -216,7 +216,7 @@ module _ (ss : List Symbol) where
       let n : length (set code (clause_record k) q) ≡ length code = simp length-set in
       let oks : T (is_loadable ss (term_of cl.head) && body_loadable ss cl.body) × T (clauses_loadable ss cls) = both (is_loadable ss (term_of cl.head) && body_loadable ss cl.body) (clauses_loadable ss cls) t in
       let ok : T (is_loadable ss (term_of cl.head)) × T (body_loadable ss cl.body) = both (is_loadable ss (term_of cl.head)) (body_loadable ss cl.body) oks.0 in
-      let first : Has nodes q (clause_nodes ss cl) = has_left nodes q (clause_nodes ss cl) (clauses_nodes ss cls) h in
+      let first : WordsAt nodes q (clause_nodes ss cl) = has_left nodes q (clause_nodes ss cl) (clauses_nodes ss cls) h in
       let e : get_or (put_heads ss (q + length (clause_nodes ss cl)) cls (set code (clause_record k) q) (k + 1)) (clause_record k) 0 ≡ q =
       heads-below (q + length (clause_nodes ss cl)) cls (set code (clause_record k) q) (k + 1) (clause_record k) (omega arith) ∙ get_or-set_same code (clause_record k) q 0 (omega arith) in (
         subst⁻¹ (λ (i : ℕ). TermLoaded ss nodes i (term_of cl.head)) e (record { words = has_left nodes q (loaded_words ss (term_of cl.head)) (body_nodes ss cl.body) first; loadable = ok.0; shallow = s.0.head }),
@@ -230,7 +230,7 @@ pub record BodyPart (ss : List Symbol) (sh : Sheet) (nodes code : List ℕ) (k :
   pub at : body_at code k ≡ l
   pub node : ℕ
   pub body : Written ss sh code l node cl.body
-  pub stand : Has nodes node (body_nodes ss cl.body)
+  pub stand : WordsAt nodes node (body_nodes ss cl.body)
   pub loadable : T (body_loadable ss cl.body)
   pub limited : EachLimited cl.body
   pub after : after_at code k ≡ next_for sh cl.head k
@@ -275,7 +275,7 @@ module _ (ss : List Symbol) (sh : Sheet) where
       }
 
   module _ (nodes : List ℕ) where
-    clause-written : (q : ℕ) (cl : Clause) (code : List ℕ) (k l : ℕ) → k ≤ program_clauses → Has nodes q (clause_nodes ss cl) → T (body_loadable ss cl.body) → EachLimited cl.body → bodies ≤ l
+    clause-written : (q : ℕ) (cl : Clause) (code : List ℕ) (k l : ℕ) → k ≤ program_clauses → WordsAt nodes q (clause_nodes ss cl) → T (body_loadable ss cl.body) → EachLimited cl.body → bodies ≤ l
         → behind_body l cl.body ≤ length code → BodyPart ss sh nodes (put_clause ss sh q cl code k l) k cl l
     unfolding put_clause clause_nodes
     clause-written q cl code k l few h t s low room =
@@ -306,7 +306,7 @@ module _ (ss : List Symbol) (sh : Sheet) where
     }
 
     -- every clause stands somewhere, all but its head
-    pub clauses-written : (q : ℕ) (cls : List Clause) (code : List ℕ) (k l : ℕ) → Has nodes q (clauses_nodes ss cls) → T (clauses_loadable ss cls) → ClausesLimited cls → k + length cls ≤ program_clauses + 1 → bodies ≤ l
+    pub clauses-written : (q : ℕ) (cls : List Clause) (code : List ℕ) (k l : ℕ) → WordsAt nodes q (clauses_nodes ss cls) → T (clauses_loadable ss cls) → ClausesLimited cls → k + length cls ≤ program_clauses + 1 → bodies ≤ l
         → literal_from l (body_records cls) ≤ length code → (n : ℕ) (cl : Clause) → nth_clause cls n ≡ some cl → (place : ℕ) × BodyPart ss sh nodes (put_clauses ss sh q cls code k l) (k + n) cl place
     unfolding put_clauses clauses_nodes clauses_loadable body_records nth_clause
     clauses-written q [] code k l h t s many low r n cl e = absurd (some-none cl (sym e))

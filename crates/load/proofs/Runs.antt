@@ -5,7 +5,7 @@ use mathlib.Core.Path.{◌≡◌, refl, sym, ap, ap₂, ◌∙◌, subst}
 use mathlib.Core.List.{List, [], ◌∷◌}
 use lib.ListN.{length, get_or, set}
 use Rattle.syntax.specs.Words.{node_words, goal_words}
-use Rattle.words.specs.Tables.{Has}
+use Rattle.words.specs.Tables.{WordsAt}
 use Rattle.words.proofs.TablesLaws.{Node, node}
 use Rattle.run_layout.specs.Regions.{loaded_node}
 use Rattle.load.specs.Flat.{NodeAsRead, parsed_words, flat_words, flat_what, flat_all, NameFits, AllFit, put_all, RunAt}
@@ -16,7 +16,7 @@ use Rattle.load.proofs.NodesWriting.{written-nil, written-two}
 -- What is left of a run, written behind what is copied so far, gives the whole.
 pub record Running (table : List ℕ) (stop text : ℕ) (before : List ℕ) (at : ℕ) (whole nodes : List ℕ) (p q : ℕ) : Type 0 where
   pub run : List NodeAsRead
-  pub has : Has table p (parsed_words run)
+  pub has : WordsAt table p (parsed_words run)
   pub ends : stop ≡ p + length (parsed_words run)
   pub fit : AllFit run
   pub same : put_all nodes q (flat_words (flat_all text run)) ≡ put_all before at whole
@@ -36,7 +36,7 @@ pub record Turn (table : List ℕ) (stop text : ℕ) (before : List ℕ) (at : �
       → Running table stop text before at whole (set (set nodes q v) (q + 1) u) (p + 3) (q + 2)
 
 module _ (table : List ℕ) (stop text : ℕ) (before : List ℕ) (at : ℕ) (whole nodes : List ℕ) (p q : ℕ) where
-  turn_by : (run : List NodeAsRead) → Has table p (parsed_words run) → stop ≡ p + length (parsed_words run) → AllFit run
+  turn_by : (run : List NodeAsRead) → WordsAt table p (parsed_words run) → stop ≡ p + length (parsed_words run) → AllFit run
       → put_all nodes q (flat_words (flat_all text run)) ≡ put_all before at whole → q + length (flat_words (flat_all text run)) ≡ at + length whole
       → q * node_words ≤ p * loaded_node + goal_words * loaded_node → p < stop → Turn table stop text before at whole nodes p q
   unfolding parsed_words flat_words flat_all

@@ -14,7 +14,7 @@ use Rattle.syntax.specs.Terms.{arity, Atom, term_of, same_name, same_predicate, 
 use Rattle.run_layout.specs.Regions.{code_words}
 use Rattle.machine.specs.Machine.{is_for, first_for, next_for, nth_clause}
 use Rattle.machine.proofs.Tests.{both, and, name-eq, name-refl, some-eq, some-none}
-use Rattle.words.specs.Tables.{Has}
+use Rattle.words.specs.Tables.{WordsAt}
 use Rattle.run_layout.specs.Nodes.{Symbol, symbol_of, is_listed, name_of_symbol, loaded_words, is_loadable, are_loadable, TermLoaded}
 use Rattle.run_layout.specs.Program.{head_at}
 use Rattle.run_layout.proofs.Nodes.{name_of, arguments-of}
@@ -97,7 +97,7 @@ word_of ss a = first_name + symbol_of ss a.name (arity a.args)
 abbrev pub Listed : List Symbol → Atom → Type 0
 Listed ss a = T (is_listed ss a.name (arity a.args))
 
-pub atom-word : (ss : List Symbol) (nodes : List ℕ) (p : ℕ) (a : Atom) → Has nodes p (loaded_words ss (term_of a)) → (p < length nodes) × (get_or nodes p 0 ≡ word_of ss a)
+pub atom-word : (ss : List Symbol) (nodes : List ℕ) (p : ℕ) (a : Atom) → WordsAt nodes p (loaded_words ss (term_of a)) → (p < length nodes) × (get_or nodes p 0 ≡ word_of ss a)
 unfolding loaded_words
 atom-word ss nodes p a h = (h.0, h.1)
 

@@ -9,7 +9,7 @@ use lib.ListN.{length, set, length-set, length-append}
 use Rattle.syntax.specs.Terms.{term_of, Clause}
 use Rattle.syntax.specs.Words.{body_length, clause_words, clauses_words, program_clauses}
 use Rattle.machine.proofs.Tests.{both}
-use Rattle.words.specs.Tables.{Has}
+use Rattle.words.specs.Tables.{WordsAt}
 use Rattle.words.proofs.TablesLaws.{has_left, has_right}
 use Rattle.run_layout.specs.Regions.{places, bodies, clause_record, literal_from}
 use Rattle.run_layout.specs.Nodes.{Symbol, is_loadable}
@@ -30,18 +30,18 @@ use Rattle.load.proofs.ClausesLaws.{head-stands}
 
 -- ---- the first of some clauses
 
-first-words : (table : List ℕ) (p : ℕ) (cl : Clause) (cls : List Clause) → Has table p (clauses_words (cl ∷ cls)) → Has table p (clause_words cl)
+first-words : (table : List ℕ) (p : ℕ) (cl : Clause) (cls : List Clause) → WordsAt table p (clauses_words (cl ∷ cls)) → WordsAt table p (clause_words cl)
 unfolding clauses_words
 first-words table p cl cls h = has_left table p (clause_words cl) (clauses_words cls) h
 
 -- past the words of a clause at p
 abbrev pub Past : List ℕ → ℕ → ℕ → Type 0
-Past table p past = (cl : Clause) → Has table p (clause_words cl) → past ≡ p + length (clause_words cl)
+Past table p past = (cl : Clause) → WordsAt table p (clause_words cl) → past ≡ p + length (clause_words cl)
 
-rest-words : (table : List ℕ) (p past : ℕ) (cl : Clause) (cls : List Clause) → Past table p past → Has table p (clauses_words (cl ∷ cls)) → Has table past (clauses_words cls)
+rest-words : (table : List ℕ) (p past : ℕ) (cl : Clause) (cls : List Clause) → Past table p past → WordsAt table p (clauses_words (cl ∷ cls)) → WordsAt table past (clauses_words cls)
 unfolding clauses_words
 rest-words table p past cl cls e h =
-    subst⁻¹ (λ (k : ℕ). Has table k (clauses_words cls)) (e cl (first-words table p cl cls h)) (has_right table p (clause_words cl) (clauses_words cls) h)
+    subst⁻¹ (λ (k : ℕ). WordsAt table k (clauses_words cls)) (e cl (first-words table p cl cls h)) (has_right table p (clause_words cl) (clauses_words cls) h)
 
 clauses-sum : (ss : List Symbol) (cl : Clause) (cls : List Clause) → length (clauses_nodes ss (cl ∷ cls)) ≡ length (clause_nodes ss cl) + length (clauses_nodes ss cls)
 unfolding clauses_nodes
@@ -59,11 +59,11 @@ pub heads-begin : (ss : List Symbol) (cls : List Clause) (table : List ℕ) (q c
 heads-begin ss cls table q clauses code w = record { rest = cls; ready = w; gives = refl }
 
 module _ (table : List ℕ) (at node clauses : ℕ) (code : List ℕ) (k : ℕ) (l : k ≤ clauses) where
-  clause-in : (ss : List Symbol) (cls : List Clause) → HeadsTo ss cls table at node clauses code k → (cl : Clause) × Has table at (clause_words cl)
+  clause-in : (ss : List Symbol) (cls : List Clause) → HeadsTo ss cls table at node clauses code k → (cl : Clause) × WordsAt table at (clause_words cl)
   clause-in ss [] w = absurd (let z : k + 0 ≡ suc clauses = w.count in omega arith)
   clause-in ss (cl ∷ cls) w = (cl, first-words table at cl cls w.has)
 
-  pub heads-clause : (ss : List Symbol) (whole : List ℕ) → HeadsAhead ss whole table at node clauses code k → (cl : Clause) × Has table at (clause_words cl)
+  pub heads-clause : (ss : List Symbol) (whole : List ℕ) → HeadsAhead ss whole table at node clauses code k → (cl : Clause) × WordsAt table at (clause_words cl)
   heads-clause ss whole w = clause-in ss w.rest w.ready
 
   pub heads-room : (ss : List Symbol) (whole : List ℕ) → HeadsAhead ss whole table at node clauses code k → (k ≤ program_clauses) × ((clause_record k < length code) × (node ≤ places))
@@ -73,7 +73,7 @@ module _ (table : List ℕ) (at node clauses : ℕ) (code : List ℕ) (k : ℕ) 
       let c : node + length (clauses_nodes ss w.rest) ≤ places = w.ready.node in
       (omega arith, (omega arith, omega arith))
 
-  module _ (size : ℕ) (z : (ss : List Symbol) (cl : Clause) → Has table at (clause_words cl) → size ≡ length (clause_nodes ss cl)) where
+  module _ (size : ℕ) (z : (ss : List Symbol) (cl : Clause) → WordsAt table at (clause_words cl) → size ≡ length (clause_nodes ss cl)) where
     size_fits : (ss : List Symbol) (cls : List Clause) → HeadsTo ss cls table at node clauses code k → node + size ≤ places
     size_fits ss [] w = absurd (let y : k + 0 ≡ suc clauses = w.count in omega arith)
     size_fits ss (cl ∷ cls) w =
@@ -135,7 +135,7 @@ clauses-begin {cls = cls} w = record { rest = cls; ready = w; gives = refl }
 -- the first clause and the rest
 record Split (m : Meant) (cl : Clause) (cls : List Clause) (table : List ℕ) (heads : Heads) (code : List ℕ) (k : ℕ) (at : Places) : Type 0 where
   clause : ClauseTo m cl table heads code k at
-  stand : Has heads.nodes.now (at.node + length (clause_nodes m.ss cl)) (clauses_nodes m.ss cls)
+  stand : WordsAt heads.nodes.now (at.node + length (clause_nodes m.ss cl)) (clauses_nodes m.ss cls)
   loadable : T (clauses_loadable m.ss cls)
   limited : ClausesLimited cls
   inside : at.node + length (clause_nodes m.ss cl) ≤ length heads.nodes.now
@@ -147,7 +147,7 @@ unfolding clauses_nodes clauses_loadable body_records
 split {table} {heads} {code} {k} {at} high {m} cl cls w =
     let oks : T (is_loadable m.ss (term_of cl.head) && body_loadable m.ss cl.body) × T (clauses_loadable m.ss cls) = both (is_loadable m.ss (term_of cl.head) && body_loadable m.ss cl.body) (clauses_loadable m.ss cls) w.loadable in
     let ok : T (is_loadable m.ss (term_of cl.head)) × T (body_loadable m.ss cl.body) = both (is_loadable m.ss (term_of cl.head)) (body_loadable m.ss cl.body) oks.0 in
-    let first : Has heads.nodes.now at.node (clause_nodes m.ss cl) = has_left heads.nodes.now at.node (clause_nodes m.ss cl) (clauses_nodes m.ss cls) w.stand in
+    let first : WordsAt heads.nodes.now at.node (clause_nodes m.ss cl) = has_left heads.nodes.now at.node (clause_nodes m.ss cl) (clauses_nodes m.ss cls) w.stand in
     let inside : at.node < length heads.nodes.now = (atom-word m.ss heads.nodes.now at.node cl.head (head-stands m.ss heads.nodes.now at.node cl first)).0 in
     let room : literal_from at.literal (suc (body_length cl.body) + body_records cls) ≤ length code = w.room in
     record {
@@ -187,10 +187,10 @@ module _ {m : Meant} {whole table : List ℕ} {heads : Heads} {code : List ℕ} 
         go (cl ∷ cls) v = (cl, (split high cl cls v).clause)
 
     -- the clause of a turn, which its words and its nodes leave inside
-    pub clause-here : (cl : Clause) × Has table at.read (clause_words cl)
+    pub clause-here : (cl : Clause) × WordsAt table at.read (clause_words cl)
     clause-here = (ahead-clause.0, ahead-clause.1.has)
 
-    module _ {size : ℕ} (z : (ss : List Symbol) (cl : Clause) → Has table at.read (clause_words cl) → size ≡ length (clause_nodes ss cl)) where
+    module _ {size : ℕ} (z : (ss : List Symbol) (cl : Clause) → WordsAt table at.read (clause_words cl) → size ≡ length (clause_nodes ss cl)) where
       pub node-fits : at.node + size ≤ places
       node-fits = go w.rest w.ready
         where
@@ -228,7 +228,7 @@ module _ {m : Meant} {whole table : List ℕ} {heads : Heads} {code : List ℕ} 
                   ready = record {
                     headed = headed-kept long (subst⁻¹ (SameHeads code) new_is kept.heads) v.headed;
                     has = rest-words table at.read past cl cls d v.has;
-                    stand = subst⁻¹ (λ (i : ℕ). Has heads.nodes.now i (clauses_nodes m.ss cls)) f o.stand;
+                    stand = subst⁻¹ (λ (i : ℕ). WordsAt heads.nodes.now i (clauses_nodes m.ss cls)) f o.stand;
                     loadable = o.loadable;
                     limited = o.limited;
                     low = omega arith;

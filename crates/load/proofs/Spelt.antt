@@ -11,7 +11,8 @@ use Rattle.run_layout.specs.Regions.{most_nodes}
 use Rattle.machine.proofs.Tests.{name-eq}
 use Rattle.run_layout.specs.Nodes.{is_symbol}
 use Rattle.run_layout.specs.SymbolNames.{text_of}
-use Rattle.run_layout.specs.Symbols.{symbol_place, symbol_length, symbol_text}
+use Rattle.syntax.specs.Spans.{span_length}
+use Rattle.run_layout.specs.Symbols.{symbol_place, symbol_text}
 use Rattle.load.specs.Symbols.{word_name, SymbolInside, symbol_at}
 
 -- ---- a word's text
@@ -26,20 +27,20 @@ goal-text sheet goal w n = ap (λ (k : ℕ). cond (eqb k 0) sheet goal) (let e :
 pub record Part (s sheet goal : List ℕ) (w at len : ℕ) : Type 0 where
   pub text : text_of w sheet goal ≡ s
   pub place : at ≡ symbol_place w
-  pub long : len ≡ symbol_length w
+  pub long : len ≡ span_length w
 
 module _ {s sheet goal : List ℕ} {w at len : ℕ} (part : Part s sheet goal w at len) where
   pub word-name : take len (drop at s) ≡ word_name sheet goal w
   unfolding word_name
-  word-name = ap (λ (n : ℕ). take n (drop at s)) part.long ∙ ap₂ (λ (a : ℕ) (l : List ℕ). take (symbol_length w) (drop a l)) part.place (sym part.text)
+  word-name = ap (λ (n : ℕ). take n (drop at s)) part.long ∙ ap₂ (λ (a : ℕ) (l : List ℕ). take (span_length w) (drop a l)) part.place (sym part.text)
 
   pub inside-text : SymbolInside sheet goal w → at + len ≤ length s
   unfolding SymbolInside
   inside-text h =
-      let i : symbol_place w + symbol_length w ≤ length (text_of w sheet goal) = h in
+      let i : symbol_place w + span_length w ≤ length (text_of w sheet goal) = h in
       let e : length (text_of w sheet goal) ≡ length s = ap length part.text in
       let p : at ≡ symbol_place w = part.place in
-      let l : len ≡ symbol_length w = part.long in
+      let l : len ≡ span_length w = part.long in
       omega arith
 
 pub same-parts : {s t sheet goal : List ℕ} {v w at from len : ℕ} → Part s sheet goal v at len → Part t sheet goal w from len → {r : Bool}
@@ -48,12 +49,12 @@ same-parts p q e = e ∙ ap₂ same_bytes (word-name p) (word-name q)
 
 -- ---- words of other names
 
-pub name-long : (sheet goal : List ℕ) (w : ℕ) → SymbolInside sheet goal w → length (word_name sheet goal w) ≡ symbol_length w
+pub name-long : (sheet goal : List ℕ) (w : ℕ) → SymbolInside sheet goal w → length (word_name sheet goal w) ≡ span_length w
 unfolding word_name SymbolInside
 name-long sheet goal w h =
-    let i : symbol_place w + symbol_length w ≤ length (text_of w sheet goal) = h in
+    let i : symbol_place w + span_length w ≤ length (text_of w sheet goal) = h in
     let d : length (drop (symbol_place w) (text_of w sheet goal)) ≡ length (text_of w sheet goal) - symbol_place w = length-drop (symbol_place w) (text_of w sheet goal) in
-    let t : length (take (symbol_length w) (drop (symbol_place w) (text_of w sheet goal))) ≡ min (symbol_length w) (length (drop (symbol_place w) (text_of w sheet goal))) = length-take (symbol_length w) (drop (symbol_place w) (text_of w sheet goal)) in
+    let t : length (take (span_length w) (drop (symbol_place w) (text_of w sheet goal))) ≡ min (span_length w) (length (drop (symbol_place w) (text_of w sheet goal))) = length-take (span_length w) (drop (symbol_place w) (text_of w sheet goal)) in
     omega arith
 
 not_same : (a b : List ℕ) → (length a ≡ length b → ⊥) → false ≡ same_bytes a b
@@ -70,7 +71,7 @@ unequal m n k = go (eqb m n) (λ t. k (eqb→eq m n t))
     go false e = refl
     go true e = absurd (e tt)
 
-pub other_length : (sheet goal : List ℕ) (v w : ℕ) {m n : ℕ} → SymbolInside sheet goal v → SymbolInside sheet goal w → m ≡ symbol_length v → n ≡ symbol_length w → (m ≡ n → ⊥)
+pub other_length : (sheet goal : List ℕ) (v w : ℕ) {m n : ℕ} → SymbolInside sheet goal v → SymbolInside sheet goal w → m ≡ span_length v → n ≡ span_length w → (m ≡ n → ⊥)
     → eqb m n ≡ same_bytes (word_name sheet goal v) (word_name sheet goal w)
 other_length sheet goal v w {m} {n = l} h k em en n =
     unequal m l n

@@ -10,12 +10,13 @@ use Rattle.syntax.specs.Limits.{lengths, arguments, variables}
 use Rattle.syntax.specs.Terms.{Term, Terms, variable, compound, nil, cons, arity, term_of, Literal, Body, call, equation, truth, falsity, either, done, also, Clause}
 use Rattle.syntax.specs.Words.{functor, terms_words, first_name}
 use Rattle.syntax.proofs.Words.{functor-arity, functor-length}
-use Rattle.marks.specs.Standing.{NameAt, TermSpelt, TermsSpelt, stands_variable, stands_compound, stand_nil, stand_cons, LiteralSpelt, call_stands, equation_stands, truth_stands, falsity_stands, either_stands, BodySpelt, done_stands, also_stands, ClauseSpelt, ClausesSpelt, no_clauses, clause_stands}
+use Rattle.marks.specs.Spelt.{NameAt, TermSpelt, TermsSpelt, stands_variable, stands_compound, stand_nil, stand_cons, LiteralSpelt, call_stands, equation_stands, truth_stands, falsity_stands, either_stands, BodySpelt, done_stands, also_stands, ClauseSpelt, ClausesSpelt, no_clauses, clause_stands}
 use Rattle.machine.proofs.Tests.{and}
 use Rattle.run_layout.specs.Nodes.{Symbol, symbol_of, is_listed, loaded_words, loaded_all, is_loadable, are_loadable}
 use Rattle.run_layout.specs.Program.{literal_nodes, body_nodes, clause_nodes, clauses_nodes, literal_loadable, body_loadable, clauses_loadable}
 use Rattle.run_layout.specs.SymbolNames.{text_of}
-use Rattle.run_layout.specs.Symbols.{symbol_word, symbol_place, symbol_length, symbol_text}
+use Rattle.syntax.specs.Spans.{span_length}
+use Rattle.run_layout.specs.Symbols.{symbol_word, symbol_place, symbol_text}
 use Rattle.run_layout.proofs.RunLayoutSymbols.{word-length, word-text, word-place}
 use Rattle.load.specs.Flat.{NodeAsRead, parsed_words, term_parsed, terms_parsed, literal_parsed, body_parsed, clause_parsed, clauses_parsed, Flat, flat_words, flat_name, flat_symbol, flat_arity, flat_what, flat_all}
 use Rattle.load.specs.Symbols.{word_name, SymbolInside}
@@ -111,13 +112,13 @@ module _ (sheet goal : List ℕ) where
         let short : length f < lengths = omega (arith, k.short) in
         let at : flat_symbol v ≡ symbol_word b text (length f) = ap flat_symbol e ∙ symbol-is (symbol_word b text (length f)) n m in
         let place : b ≡ symbol_place (flat_symbol v) = sym (ap symbol_place at ∙ word-place b text (length f) short (omega arith)) in
-        let long : length f ≡ symbol_length (flat_symbol v) = sym (ap symbol_length at ∙ word-length b text (length f) short) in
+        let long : length f ≡ span_length (flat_symbol v) = sym (ap span_length at ∙ word-length b text (length f) short) in
         let which : symbol_text (flat_symbol v) ≡ text = ap symbol_text at ∙ word-text b text (length f) short (omega arith) in
         let source : text_of (flat_symbol v) sheet goal ≡ s = reads (flat_symbol v) which in
         let part : Part s sheet goal (flat_symbol v) b (length f) = record { text = source; place = place; long = long } in
         let room : length (text_of (flat_symbol v) sheet goal) ≡ length s = ap length source in
         let i : b + length f ≤ length s = k.inside in
-        let z : symbol_place (flat_symbol v) + symbol_length (flat_symbol v) ≤ length (text_of (flat_symbol v) sheet goal) = omega (arith, place, long, room, i) in
+        let z : symbol_place (flat_symbol v) + span_length (flat_symbol v) ≤ length (text_of (flat_symbol v) sheet goal) = omega (arith, place, long, room, i) in
         record {
           high = omega arith;
           name = sym (word-name part) ∙ sym k.spelt;

@@ -8,7 +8,7 @@ use lib.ListN.{length, set}
 use Rattle.syntax.specs.Terms.{Literal, call, equation, truth, falsity, either, Body, done, also}
 use Rattle.syntax.specs.Words.{literal_length, body_length}
 use Rattle.machine.proofs.Tests.{both}
-use Rattle.words.specs.Tables.{Has}
+use Rattle.words.specs.Tables.{WordsAt}
 use Rattle.words.specs.Items.{Item, before_right, behind, item_words, items_words, literal_items, items}
 use Rattle.words.proofs.TablesLaws.{has_left, has_right}
 use Rattle.words.proofs.Items.{body-many, items-stand, first-stands, rest-stand}
@@ -41,8 +41,8 @@ AllSmall (x ∷ xs) = SideSmall x × AllSmall xs
 -- items whose words and nodes stand at their places, with room for their records and for the end
 pub record ItemsTo (m : Meant) (xs : List Item) (table : List ℕ) (heads : Heads) (code : List ℕ) (at : Places) : Type 0 where
   pub headed : Headed m heads code
-  pub has : Has table at.read (items_words xs)
-  pub stand : Has heads.nodes.now at.node (items_nodes m.ss xs)
+  pub has : WordsAt table at.read (items_words xs)
+  pub stand : WordsAt heads.nodes.now at.node (items_nodes m.ss xs)
   pub loadable : AllLoadable m.ss xs
   pub small : AllSmall xs
   pub node : at.node ≤ length heads.nodes.now
@@ -109,7 +109,7 @@ module _ {m : Meant} {b : Body} {table : List ℕ} {many : ℕ} {heads : Heads} 
       record {
         headed = w.headed;
         has = items-stand table at.read b w.has;
-        stand = subst⁻¹ (Has heads.nodes.now at.node) (body-items m.ss b) w.stand;
+        stand = subst⁻¹ (WordsAt heads.nodes.now at.node) (body-items m.ss b) w.stand;
         loadable = body-loadable m.ss b w.loadable;
         small = body-small b (omega arith);
         node = w.node;
@@ -128,8 +128,8 @@ module _ {m : Meant} {b : Body} {table : List ℕ} {many : ℕ} {heads : Heads} 
 -- the first item and the rest
 record Split (m : Meant) (x : Item) (xs : List Item) (table : List ℕ) (heads : Heads) (code : List ℕ) (at : Places) : Type 0 where
   item : ItemTo m x table heads code at
-  has : Has table (at.read + length (item_words x)) (items_words xs)
-  stand : Has heads.nodes.now (at.node + length (item_nodes m.ss x)) (items_nodes m.ss xs)
+  has : WordsAt table (at.read + length (item_words x)) (items_words xs)
+  stand : WordsAt heads.nodes.now (at.node + length (item_nodes m.ss x)) (items_nodes m.ss xs)
   loadable : AllLoadable m.ss xs
   small : AllSmall xs
   inside : at.node + length (item_nodes m.ss x) ≤ length heads.nodes.now
@@ -140,7 +140,7 @@ split : {m : Meant} {x : Item} {xs : List Item} {table : List ℕ} {heads : Head
 unfolding items_nodes
 split {m} {x} {xs} {table} {heads} {code} {at} w =
     let h : next_literal (literal_from at.literal (suc (length xs))) ≤ length code = w.high in
-    let first : Has heads.nodes.now at.node (item_nodes m.ss x) = has_left heads.nodes.now at.node (item_nodes m.ss x) (items_nodes m.ss xs) w.stand in
+    let first : WordsAt heads.nodes.now at.node (item_nodes m.ss x) = has_left heads.nodes.now at.node (item_nodes m.ss x) (items_nodes m.ss xs) w.stand in
     record {
       item = record {
         headed = w.headed;
@@ -178,7 +178,7 @@ module _ {m : Meant} {whole table : List ℕ} {i many : ℕ} {heads : Heads} {co
 
   pub ahead-next : i < many → BodyAhead m whole table i many heads code at → {new : List ℕ}
       → ((m : Meant) (x : Item) → ItemTo m x table heads code at → new ≡ put_record code at.literal (kind_of x) at.node (other_of m.ss m.sh at.node at.literal x))
-      → {next : ℕ} → ((x : Item) → Has table at.read (item_words x) → next ≡ at.read + length (item_words x)) → {size : ℕ} → ((n : ℕ) → n * 3 + 1 * 2 ≡ (next - at.read) * 2 → size ≡ n)
+      → {next : ℕ} → ((x : Item) → WordsAt table at.read (item_words x) → next ≡ at.read + length (item_words x)) → {size : ℕ} → ((n : ℕ) → n * 3 + 1 * 2 ≡ (next - at.read) * 2 → size ≡ n)
       → {after : ℕ} → after ≡ next_literal at.literal → BodyAhead m whole table (i + 1) many heads new (record { read = next; node = at.node + size; literal = after })
   unfolding put_items
   ahead-next l w {new} n {next} s {size} z {after} e =
@@ -203,8 +203,8 @@ module _ {m : Meant} {whole table : List ℕ} {i many : ℕ} {heads : Heads} {co
             rest = xs;
             ready = record {
               headed = headed-kept long (subst⁻¹ (SameHeads code) new_is (record-heads code at.literal (kind_of x) at.node (other_of m.ss m.sh at.node at.literal x) v.low)) v.headed;
-              has = subst⁻¹ (λ (k : ℕ). Has table k (items_words xs)) r o.has;
-              stand = subst⁻¹ (λ (k : ℕ). Has heads.nodes.now k (items_nodes m.ss xs)) f o.stand;
+              has = subst⁻¹ (λ (k : ℕ). WordsAt table k (items_words xs)) r o.has;
+              stand = subst⁻¹ (λ (k : ℕ). WordsAt heads.nodes.now k (items_nodes m.ss xs)) f o.stand;
               loadable = o.loadable;
               small = o.small;
               node = omega arith;
@@ -230,7 +230,7 @@ module _ {m : Meant} {whole table : List ℕ} {i many : ℕ} {heads : Heads} {co
       go (x ∷ xs) c g = absurd (let z : i + suc (length xs) ≡ many = c in omega arith)
 
 -- how far the words of an item reach, and how many its nodes take
-module _ (table : List ℕ) (at next : ℕ) (s : (x : Item) → Has table at (item_words x) → next ≡ at + length (item_words x)) (x : Item) (h : Has table at (item_words x)) where
+module _ (table : List ℕ) (at next : ℕ) (s : (x : Item) → WordsAt table at (item_words x) → next ≡ at + length (item_words x)) (x : Item) (h : WordsAt table at (item_words x)) where
   pub item-behind : (at ≤ next) × (1 ≤ next - at)
   item-behind = (omega (arith, s x h), omega (arith, s x h, item-nodes [] x))
 

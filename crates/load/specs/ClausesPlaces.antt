@@ -2,7 +2,7 @@
 use Rattle.std.specs.Prelude.{ℕ, ◌≤◌, ◌≡◌, List, T, length}
 use Rattle.syntax.specs.Terms.{term_of, Body, Clause}
 use Rattle.syntax.specs.Words.{body_words, body_length, clause_words}
-use Rattle.words.specs.Tables.{Has}
+use Rattle.words.specs.Tables.{WordsAt}
 use Rattle.run_layout.specs.Regions.{bodies, next_literal, literal_from}
 use Rattle.run_layout.specs.Nodes.{is_loadable}
 use Rattle.run_layout.specs.Program.{body_nodes, clause_nodes, body_loadable}
@@ -14,9 +14,9 @@ use Rattle.load.specs.Search.{Meant, Headed}
 -- a body of so many items
 pub record BodyTo (m : Meant) (b : Body) (table : List ℕ) (many : ℕ) (heads : Heads) (code : List ℕ) (at : Places) : Type 0 where
   pub headed : Headed m heads code
-  pub has : Has table at.read (body_words b)
+  pub has : WordsAt table at.read (body_words b)
   pub count : many ≡ body_length b
-  pub stand : Has heads.nodes.now at.node (body_nodes m.ss b)
+  pub stand : WordsAt heads.nodes.now at.node (body_nodes m.ss b)
   pub loadable : T (body_loadable m.ss b)
   pub node : at.node ≤ length heads.nodes.now
   pub low : bodies ≤ at.literal
@@ -25,8 +25,8 @@ pub record BodyTo (m : Meant) (b : Body) (table : List ℕ) (many : ℕ) (heads 
 -- a clause of number k, with room for the records of its body
 pub record ClauseTo (m : Meant) (cl : Clause) (table : List ℕ) (heads : Heads) (code : List ℕ) (k : ℕ) (at : Places) : Type 0 where
   pub headed : Headed m heads code
-  pub has : Has table at.read (clause_words cl)
-  pub stand : Has heads.nodes.now at.node (clause_nodes m.ss cl)
+  pub has : WordsAt table at.read (clause_words cl)
+  pub stand : WordsAt heads.nodes.now at.node (clause_nodes m.ss cl)
   pub head_loadable : T (is_loadable m.ss (term_of cl.head))
   pub body-loadable : T (body_loadable m.ss cl.body)
   pub low : 1 ≤ k

@@ -5,8 +5,8 @@ use Rattle.syntax.specs.Terms.{Term, Terms, variable, compound, nil, cons, arity
 use Rattle.syntax.specs.Terms.{also, Clause}
 use Rattle.syntax.specs.Words.{functor, functor_arity, functor_length, terms_words, body_words, body_length, clause_words, clauses_words, first_name}
 use Rattle.syntax.specs.Words.{node_words, program_bytes}
-use Rattle.marks.specs.Standing.{BodySpelt, ClauseSpelt, ClausesSpelt}
-use Rattle.words.specs.Tables.{Has}
+use Rattle.marks.specs.Spelt.{BodySpelt, ClauseSpelt, ClausesSpelt}
+use Rattle.words.specs.Tables.{WordsAt}
 use Rattle.run_layout.specs.Regions.{loaded_node}
 use Rattle.run_layout.specs.Symbols.{symbol_word}
 use Rattle.load.specs.declared.node_words.Source.{Source}
@@ -14,7 +14,7 @@ use Rattle.load.specs.declared.node_words.Source.TheVariants.{Sheet, Goal}
 
 -- ---- nodes as they were read
 
--- the three words of a node (`Words` of the crate syntax)
+-- the three words of a node (`Words` of the crate `syntax`)
 pub record NodeAsRead : Type 0 where
   pub what : ℕ
   pub size : ℕ
@@ -109,7 +109,7 @@ put_all l q (w ∷ ws) = put_all (set l q w) (q + 1) ws
 -- nodes stand from one place up to another
 pub record RunAt (table : List ℕ) (from stop : ℕ) : Type 0 where
   pub run : List NodeAsRead
-  pub has : Has table from (parsed_words run)
+  pub has : WordsAt table from (parsed_words run)
   pub ends : stop ≡ from + length (parsed_words run)
   pub fit : AllFit run
 
@@ -118,7 +118,7 @@ pub record BodyHere (table : List ℕ) (p items : ℕ) : Type 0 where
   pub text : List ℕ
   pub short : length text ≤ program_bytes
   pub body : Body
-  pub has : Has table p (body_words body)
+  pub has : WordsAt table p (body_words body)
   pub count : items ≡ body_length body
   pub stands : BodySpelt text body
 
@@ -127,7 +127,7 @@ pub record ClauseHere (table : List ℕ) (p : ℕ) : Type 0 where
   pub text : List ℕ
   pub short : length text ≤ program_bytes
   pub clause : Clause
-  pub has : Has table p (clause_words clause)
+  pub has : WordsAt table p (clause_words clause)
   pub stands : ClauseSpelt text clause
 
 -- so many clauses of a text stand from p on
@@ -135,6 +135,6 @@ pub record ClausesHere (table : List ℕ) (p clauses : ℕ) : Type 0 where
   pub text : List ℕ
   pub short : length text ≤ program_bytes
   pub list : List Clause
-  pub has : Has table p (clauses_words list)
+  pub has : WordsAt table p (clauses_words list)
   pub count : clauses ≡ length list
   pub stand : ClausesSpelt text list

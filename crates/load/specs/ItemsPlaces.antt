@@ -1,7 +1,7 @@
 -- What stands where when an item's record is written.
 use Rattle.std.specs.Prelude.{ℕ, ◌≤◌, List, T, length}
 use Rattle.syntax.specs.Terms.{term_of}
-use Rattle.words.specs.Tables.{Has}
+use Rattle.words.specs.Tables.{WordsAt}
 use Rattle.words.specs.Items.{Item, plain_call, plain_equation, plain_truth, plain_falsity, before_left, before_right, behind, item_words}
 use Rattle.run_layout.specs.Regions.{bodies, places, next_literal}
 use Rattle.run_layout.specs.Nodes.{Symbol, is_loadable}
@@ -33,8 +33,8 @@ SideSmall behind = Unit {0}
 -- an item whose words and nodes stand at its places, with room for its record
 pub record ItemTo (m : Meant) (x : Item) (table : List ℕ) (heads : Heads) (code : List ℕ) (at : Places) : Type 0 where
   pub headed : Headed m heads code
-  pub has : Has table at.read (item_words x)
-  pub stand : Has heads.nodes.now at.node (item_nodes m.ss x)
+  pub has : WordsAt table at.read (item_words x)
+  pub stand : WordsAt heads.nodes.now at.node (item_nodes m.ss x)
   pub loadable : ItemLoadable m.ss x
   pub small : SideSmall x
   pub node : at.node ≤ length heads.nodes.now

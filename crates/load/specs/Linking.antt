@@ -2,7 +2,7 @@
 use Rattle.std.specs.Prelude.{ℕ, ◌≤◌, ◌≡◌, List, T, length}
 use Rattle.syntax.specs.Terms.{Sheet, Goal}
 use Rattle.syntax.specs.Words.{sheet_words, program_words, body_words, body_length, clauses_words}
-use Rattle.words.specs.Tables.{Has}
+use Rattle.words.specs.Tables.{WordsAt}
 use Rattle.run_layout.specs.Regions.{code_words, places}
 use Rattle.run_layout.specs.Nodes.{Symbol}
 use Rattle.run_layout.specs.Limits.{ProgramLimited, GoalLimited}
@@ -12,13 +12,13 @@ pub record Linkable (table : List ℕ) (clauses : ℕ) (goals : List ℕ) (liter
   pub ss : List Symbol
   pub sh : Sheet
   pub g : Goal
-  pub has_clauses : Has table 0 (clauses_words sh.clauses)
+  pub has_clauses : WordsAt table 0 (clauses_words sh.clauses)
   pub clauses_count : clauses ≡ length sh.clauses
-  pub has_goal : Has goals 0 (body_words g.body)
+  pub has_goal : WordsAt goals 0 (body_words g.body)
   pub literals_count : literals ≡ body_length g.body
   pub limits : ProgramLimited sh
   pub goal_limits : GoalLimited g
-  pub nodes_stand : Has nodes 0 (program_nodes ss sh g)
+  pub nodes_stand : WordsAt nodes 0 (program_nodes ss sh g)
   pub goal_loadable : T (body_loadable ss g.body)
   pub clauses-loadable : T (clauses_loadable ss sh.clauses)
   pub nodes_short : length nodes ≤ places

@@ -1,7 +1,7 @@
 -- The numbers that the names of copied nodes get.
 use Rattle.std.specs.Prelude.{ℕ, ◌+◌, ◌≤◌, ◌≡◌, cond, List, [], ◌∷◌, ltb, length, get_or, set}
 use Rattle.syntax.specs.Words.{first_name}
-use Rattle.words.specs.Tables.{Has}
+use Rattle.words.specs.Tables.{WordsAt}
 use Rattle.run_layout.specs.Nodes.{Symbol, symbol_of}
 use Rattle.load.specs.Flat.{Flat, flat_words, flat_symbol, flat_arity, put_all}
 use Rattle.load.specs.Symbols.{word_name, SymbolInside, symbols_of, SymbolsListed}
@@ -36,7 +36,7 @@ AllInside sheet goal (x ∷ xs) = NodeInside sheet goal x.what × AllInside shee
 -- copied nodes stand from 0 up to a place
 pub record Copied (sheet goal nodes : List ℕ) (stop : ℕ) : Type 0 where
   pub flats : List Flat
-  pub has : Has nodes 0 (flat_words flats)
+  pub has : WordsAt nodes 0 (flat_words flats)
   pub ends : stop ≡ length (flat_words flats)
   pub inside : AllInside sheet goal flats
 

@@ -3,8 +3,8 @@ use Rattle.std.specs.Prelude.{ℕ, ◌≤◌, ◌≡◌, List, T, length}
 use Rattle.syntax.specs.Limits.{goal_bytes}
 use Rattle.syntax.specs.Terms.{Sheet, Goal}
 use Rattle.syntax.specs.Words.{body_words, body_length, clauses_words, program_words, goal_words, program_bytes}
-use Rattle.marks.specs.Standing.{BodySpelt, ClausesSpelt}
-use Rattle.words.specs.Tables.{Has}
+use Rattle.marks.specs.Spelt.{BodySpelt, ClausesSpelt}
+use Rattle.words.specs.Tables.{WordsAt}
 use Rattle.run_layout.specs.Regions.{nodes_words, places}
 use Rattle.run_layout.specs.Nodes.{Symbol}
 use Rattle.run_layout.specs.Program.{program_nodes, body_loadable, clauses_loadable}
@@ -14,10 +14,10 @@ use Rattle.run_layout.specs.SymbolNames.{SymbolsSpelt}
 pub record BothTabled (sheet table : List ℕ) (clauses : ℕ) (goal goals : List ℕ) (literals : ℕ) : Type 0 where
   pub sh : Sheet
   pub g : Goal
-  pub has_clauses : Has table 0 (clauses_words sh.clauses)
+  pub has_clauses : WordsAt table 0 (clauses_words sh.clauses)
   pub clauses_count : clauses ≡ length sh.clauses
   pub clauses_stand : ClausesSpelt sheet sh.clauses
-  pub has_goal : Has goals 0 (body_words g.body)
+  pub has_goal : WordsAt goals 0 (body_words g.body)
   pub literals_count : literals ≡ body_length g.body
   pub goal_stands : BodySpelt goal g.body
   pub sheet_short : length sheet ≤ program_bytes
@@ -37,6 +37,6 @@ pub record Loadable (sheet table : List ℕ) (clauses : ℕ) (goal goals : List 
 pub record Loaded (sheet goal : List ℕ) (sh : Sheet) (g : Goal) (nodes symbols : List ℕ) : Type 0 where
   pub ss : List Symbol
   pub names : SymbolsSpelt ss symbols sheet goal
-  pub nodes_stand : Has nodes 0 (program_nodes ss sh g)
+  pub nodes_stand : WordsAt nodes 0 (program_nodes ss sh g)
   pub goal_loadable : T (body_loadable ss g.body)
   pub clauses-loadable : T (clauses_loadable ss sh.clauses)

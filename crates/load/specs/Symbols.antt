@@ -2,7 +2,8 @@
 use Rattle.std.specs.Prelude.{ℕ, zero, suc, ◌+◌, ◌<◌, ◌≤◌, List, [], ◌∷◌, ◌++◌, length, get_or}
 use Rattle.run_layout.specs.Regions.{most_nodes}
 use Rattle.run_layout.specs.Nodes.{Symbol}
-use Rattle.run_layout.specs.Symbols.{symbol_place, symbol_length}
+use Rattle.syntax.specs.Spans.{span_length}
+use Rattle.run_layout.specs.Symbols.{symbol_place}
 use Rattle.run_layout.specs.SymbolNames.{text_of, symbol_name}
 
 -- ---- symbols
@@ -13,7 +14,7 @@ word_name sheet goal w = symbol_name sheet goal w
 
 -- it is a part of its text
 unfoldable pub SymbolInside : List ℕ → List ℕ → ℕ → Type 0
-SymbolInside sheet goal w = symbol_place w + symbol_length w ≤ length (text_of w sheet goal)
+SymbolInside sheet goal w = symbol_place w + span_length w ≤ length (text_of w sheet goal)
 
 -- Symbol k: the name of word k, and the number of arguments, behind room for as many names as there are nodes.
 unfoldable pub symbol_at : List ℕ → List ℕ → List ℕ → ℕ → Symbol

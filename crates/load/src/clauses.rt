@@ -13,7 +13,7 @@ use run_layout::{CLAUSE_SIZE, END_KIND};
 use syntax::CLAUSE_START;
 use words::tables::{CLAUSE_ITEMS, past, past_item, put, word_at};
 
-// The records of a body of so many items, and its end.
+/// Writes the records of a body of so many items and its end, from `at.literal` on.
 pub fn put_body(table: &[u32], items: usize, heads: Heads, code: &mut [u32], at: Places)
     requires { (m : Meant) × ((b : Body) × BodyTo m b table.now items heads code.old at) }
     ensures { (m : Meant) (b : Body) → BodyTo m b table.now items heads.entry code.old at
@@ -37,8 +37,8 @@ pub fn put_body(table: &[u32], items: usize, heads: Heads, code: &mut [u32], at:
     put(code, literal, END_KIND);
 }
 
-// The record of clause k but for its head's place: where its body's records begin, and the next clause of the same predicate. And the records of its
-// body; the place behind them.
+/// Writes the records of clause k's body, and in its own record where they begin and the next clause of its predicate, and gives the place behind them. The
+/// head's place stands in the record already (`programs::put_heads`).
 pub fn put_clause(table: &[u32], heads: Heads, code: &mut [u32], k: usize, at: Places) -> usize
     requires { (m : Meant) × ((cl : Clause) × ClauseTo m cl table.now heads code.old k at) }
     ensures { (m : Meant) (cl : Clause) → ClauseTo m cl table.now heads.entry code.old k at

@@ -9,7 +9,7 @@ ghost use Rattle.load.specs.Interning.{Interned, SymbolCount};
 use crate::symbols::{Texts, find_symbol};
 use run_layout::MOST_NODES;
 
-// The number of the symbol with the name of a word and so many arguments, which is listed where it is new.
+/// The number of the symbol with the name of the symbol's word w and so many arguments, which is listed where it is new.
 pub fn intern(texts: Texts, symbols: &mut [u32], count: usize, w: u32, arguments: u32) -> usize
     requires { (SymbolsListed texts.sheet.now texts.goal.now symbols.old count × (count < most_nodes))
         × ((nodes_words ≤ length symbols.old) × SymbolInside texts.sheet.now texts.goal.now w) }
@@ -24,7 +24,7 @@ pub fn intern(texts: Texts, symbols: &mut [u32], count: usize, w: u32, arguments
     count
 }
 
-// How many symbols there are once number k is among them.
+/// How many symbols are listed once number k is among them.
 pub fn counted(count: usize, k: usize) -> usize
     requires { (count < most_nodes) × (k ≤ count) }
     ensures { SymbolCount count k result }

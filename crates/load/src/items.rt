@@ -1,7 +1,7 @@
 // The record of a body's item.
 
 ghost use Rattle.std.specs.Prelude.{◌≡◌};
-ghost use Rattle.words.specs.Tables.{Has};
+ghost use Rattle.words.specs.Tables.{WordsAt};
 ghost use Rattle.words.specs.Items.{Item, item_words};
 ghost use Rattle.load.specs.ItemsRecords.{kind_of, other_of};
 ghost use Rattle.load.specs.Search.{Meant};
@@ -18,11 +18,11 @@ use words::tables::{past, word_at};
 // The words around a side: the one before it, and the one behind it.
 const SIDE_ENDS: usize = 2;
 
-// The kind of an item's record: of a plain literal its own; where a bracket begins its sides part, and at its other words a side ends. A plain
-// literal's kind is the same word in both tables and goes over as it is, so kinds are numbers here.
+// The kind of an item's record: of a plain literal its own; where a bracket begins its sides part, and at its other words a side ends. A plain literal's kind
+// is the same number in both tables.
 fn kind_of(table: &[u32], p: usize) -> usize
-    requires { (x : Item) × Has table.now p (item_words x) }
-    ensures { (x : Item) → Has table.now p (item_words x) → result ≡ kind_of x }
+    requires { (x : Item) × WordsAt table.now p (item_words x) }
+    ensures { (x : Item) → WordsAt table.now p (item_words x) → result ≡ kind_of x }
 {
     let word = word_at(table, p);
     if word <= EQUATION_KIND {
@@ -60,7 +60,7 @@ fn other_of(table: &[u32], heads: Heads, code: &[u32], at: Places) -> usize
     literal_from(at.literal, items + SIDE_ENDS)
 }
 
-// The record of an item.
+/// Writes the record of an item at `at.literal`: a plain literal, or a word of a bracket.
 pub fn put_item(table: &[u32], heads: Heads, code: &mut [u32], at: Places)
     requires { (m : Meant) × ((x : Item) × ItemTo m x table.now heads code.old at) }
     ensures { (m : Meant) (x : Item) → ItemTo m x table.now heads.entry code.old at

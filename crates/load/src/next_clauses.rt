@@ -9,7 +9,7 @@ ghost use Rattle.load.specs.Search.{sought, HeadsPlaced};
 use run_layout::CLAUSE_SIZE;
 use words::tables::word_at;
 
-// The loaded nodes of a program, and how many clauses it has: the code has the places of their heads.
+/// The heads of a program's clauses: its loaded nodes, and how many clauses it has. Their places stand in the code.
 #[derive(Clone, Copy)]
 pub struct Heads<'a> {
     pub nodes: &'a [u32],
@@ -26,8 +26,7 @@ fn head_word(nodes: &[u32], code: &[u32], j: usize) -> usize
     word_at(nodes, head)
 }
 
-// The topmost clause after clause k whose head has this first word; 0 where there is none. The number goes as it is into a word of the code, where 0 says so
-// too.
+/// The topmost clause after clause k whose head has this first word, by its number from 1 on; 0 stands for none, here as in the code.
 pub fn next_for(heads: Heads, code: &[u32], word: usize, k: usize) -> usize
     requires heads_placed { HeadsPlaced heads.nodes.now code.now heads.clauses }
     requires k_le_clauses { k ≤ heads.clauses }

@@ -11,7 +11,7 @@ use crate::symbols::Texts;
 use copying::{copy_body, copy_clauses};
 use numbering::number_nodes;
 
-// The nodes and the symbols of a sheet's clauses and of a goal.
+/// Writes the nodes of a goal and then those of a sheet's clauses, and the symbols of both.
 pub fn load_nodes(sheet: ReadSheet, goal: ReadGoal, nodes: &mut [u32], symbols: &mut [u32])
     requires { Loadable sheet.text.now sheet.table.now sheet.clauses goal.text.now goal.table.now goal.literals nodes.old symbols.old }
     ensures { (w : Loadable sheet.entry.text.now sheet.entry.table.now sheet.entry.clauses goal.entry.text.now goal.entry.table.now

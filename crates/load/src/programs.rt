@@ -3,7 +3,7 @@
 ghost use Rattle.std.specs.Prelude.{◌≡◌, List, length};
 ghost use Rattle.syntax.specs.Terms.{Clause};
 ghost use Rattle.syntax.specs.Words.{clause_words};
-ghost use Rattle.words.specs.Tables.{Has};
+ghost use Rattle.words.specs.Tables.{WordsAt};
 ghost use Rattle.run_layout.specs.Nodes.{Symbol};
 ghost use Rattle.run_layout.specs.Program.{clause_nodes, Program};
 ghost use Rattle.load.specs.Search.{Meant};
@@ -22,15 +22,15 @@ use words::tables::{CLAUSE_ITEMS, past_body, past_clause, put, word_at};
 
 // How many words the loaded nodes of the clause at p take.
 fn clause_nodes(table: &[u32], p: usize) -> usize
-    requires { (cl : Clause) × Has table.now p (clause_words cl) }
-    ensures { (ss : List Symbol) (cl : Clause) → Has table.now p (clause_words cl) → result ≡ length (clause_nodes ss cl) }
+    requires { (cl : Clause) × WordsAt table.now p (clause_words cl) }
+    ensures { (ss : List Symbol) (cl : Clause) → WordsAt table.now p (clause_words cl) → result ≡ length (clause_nodes ss cl) }
 {
     let size = word_at(table, p);
     let items = word_at(table, p + CLAUSE_ITEMS);
     nodes_of(size, items + CLAUSE_START)
 }
 
-// The places of the heads, written into the records of the clauses.
+/// Writes the places of the heads into the records of the clauses, whose nodes stand from q on.
 pub fn put_heads(table: &[u32], clauses: usize, q: usize, code: &mut [u32])
     requires { (ss : List Symbol) × ((cls : List Clause) × HeadsTo ss cls table.now 0 q clauses code.old 1) }
     ensures { (ss : List Symbol) (cls : List Clause) → HeadsTo ss cls table.now 0 q clauses code.old 1 → code.new
@@ -45,8 +45,8 @@ pub fn put_heads(table: &[u32], clauses: usize, q: usize, code: &mut [u32])
     }
 }
 
-// The same for all clauses, their bodies one behind the other. (One function for both walks would have to be given what a turn writes, and where the last
-// turn's records ended.)
+/// Writes the other words of the clauses' records and the records of their bodies, one body behind the other. All heads have their places by then, since the
+/// next clause of a predicate is found by its head.
 pub fn put_clauses(table: &[u32], heads: Heads, q: usize, code: &mut [u32])
     requires { (m : Meant) × ((cls : List Clause) × ClausesTo m cls table.now heads code.old 1 (first_clause q)) }
     ensures { (m : Meant) (cls : List Clause) → ClausesTo m cls table.now heads.entry code.old 1 (first_clause q)
@@ -67,7 +67,7 @@ pub fn put_clauses(table: &[u32], heads: Heads, q: usize, code: &mut [u32])
     }
 }
 
-// The records of a sheet's clauses and of a goal whose nodes are loaded: the goal's nodes come first, then those of the clauses in their order.
+/// Writes the records of a goal and of a sheet's clauses whose nodes are loaded: the goal's nodes come first, then those of the clauses in their order.
 pub fn link(sheet: ReadSheet, goal: ReadGoal, nodes: &[u32], code: &mut [u32])
     requires { Linkable sheet.table.now sheet.clauses goal.table.now goal.literals nodes.now code.old }
     ensures { (w : Linkable sheet.entry.table.now sheet.entry.clauses goal.entry.table.now goal.entry.literals nodes.now code.old)

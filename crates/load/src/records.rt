@@ -9,7 +9,7 @@ use run_layout::{LITERAL_SIZE, LOADED_NODE};
 use syntax::NODE_WORDS;
 use words::tables::{put, put_three};
 
-// Where a part of a program stands: its words as read from `read` on, its loaded nodes from `node` on, its records from `literal` on.
+/// Where a part of a program stands: its words as read from `read` on, its loaded nodes from `node` on, its records from `literal` on.
 #[derive(Clone, Copy)]
 pub struct Places {
     pub read: usize,
@@ -17,16 +17,16 @@ pub struct Places {
     pub literal: usize,
 }
 
-// What a program was compiled to: the nodes of its terms, and the code of its clauses and goal. State and scratch words are no part of it: a struct with a
-// `&mut` field would have each function promise that it is still the same reference.
+/// What a program was compiled to: the nodes of its terms, and the code of its clauses and goal. It is only read; state and scratch words are written and go
+/// beside it.
 #[derive(Clone, Copy)]
 pub struct Compiled<'a> {
     pub nodes: &'a [u32],
     pub code: &'a [u32],
 }
 
-// How many words some nodes take once they are loaded, by how many they take as read. `words` is the number of words as read, `others` the number
-// of those that belong to no node: an item's first word, a clause's length and its two counts.
+/// How many words some nodes take once they are loaded, by how many they take as read. `words` is the number of words as read, `others` the number of those
+/// that belong to no node: an item's first word, the words of a clause before its head.
 pub fn nodes_of(words: usize, others: usize) -> usize
     requires { others ≤ words }
     ensures { (n : ℕ) → n * node_words + others * loaded_node ≡ words * loaded_node → result ≡ n }
@@ -34,7 +34,7 @@ pub fn nodes_of(words: usize, others: usize) -> usize
     (words - others) / NODE_WORDS * LOADED_NODE
 }
 
-// The record behind another.
+/// The place of the record behind the one at l.
 pub fn next_literal(l: usize) -> usize
     requires { l < 2 ^ 32 }
     ensures { result ≡ next_literal l }
@@ -42,7 +42,7 @@ pub fn next_literal(l: usize) -> usize
     l + LITERAL_SIZE
 }
 
-// The record of a number, counted from one at l.
+/// The place of record i, counted from the one at l, which is number 0.
 pub fn literal_from(l: usize, i: usize) -> usize
     requires { (l ≤ places) × (i ≤ places + side_ends) }
     ensures { result ≡ literal_from l i }
@@ -50,7 +50,7 @@ pub fn literal_from(l: usize, i: usize) -> usize
     l + i * LITERAL_SIZE
 }
 
-// Two words, one behind the other.
+/// Writes two words at p, one behind the other.
 pub fn put_pair(code: &mut [u32], p: usize, a: usize, b: usize)
     requires { (p + 1 < length code.old) × ((a < 2 ^ 32) × (b < 2 ^ 32)) }
     ensures { code.new ≡ put_pair code.old p a b }
@@ -59,7 +59,7 @@ pub fn put_pair(code: &mut [u32], p: usize, a: usize, b: usize)
     put(code, p + 1, b);
 }
 
-// A record at l: its kind and two words. The kind is a word of the code, told from other words by its number alone, so it is a number here.
+/// Writes a record of a body at l: its kind (`syntax`'s or `run_layout`'s) and its two words.
 pub fn put_record(code: &mut [u32], l: usize, kind: usize, place: usize, other: usize)
     requires { (l + 2 < length code.old) × ((kind < 2 ^ 32) × ((place < 2 ^ 32) × (other < 2 ^ 32))) }
     ensures { code.new ≡ put_record code.old l kind place other }

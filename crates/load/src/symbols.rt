@@ -1,5 +1,5 @@
-// Symbols: for number k, the word with the place, the text and the length of its name, and `MOST_NODES` words on its number of arguments.
-// They stand in a lent table, with their count beside it, since it fills up meanwhile and the library allocates nothing.
+// Symbols, names with a number of arguments: for number k, the word with the place, the text and the length of its name, and `MOST_NODES` words further on its
+// number of arguments. They stand in a lent table; how many there are is handed on beside it.
 
 ghost use Rattle.std.specs.Prelude.{◌≡◌, ◌+◌, ◌<◌, IfNone, IfSome, length, get_or};
 ghost use Rattle.syntax.specs.Terms.{same_bytes};
@@ -9,10 +9,11 @@ ghost use Rattle.run_layout.specs.Regions.{most_nodes};
 ghost use Rattle.run_layout.specs.Nodes.{is_symbol, symbol_of};
 
 use run_layout::symbols::text_of;
-use run_layout::{MOST_NODES, symbol_length, symbol_place};
+use run_layout::{MOST_NODES, symbol_place};
+use words::packing::span_length;
 use words::texts::same_bytes;
 
-// The two texts in which names stand.
+/// The two texts in which names stand.
 #[derive(Clone, Copy)]
 pub struct Texts<'a> {
     pub sheet: &'a [u8],
@@ -25,10 +26,10 @@ fn same_name(texts: Texts, v: u32, w: u32) -> bool
     ensures { result ≡ same_bytes (word_name texts.entry.sheet.now texts.entry.goal.now v)
         (word_name texts.entry.sheet.now texts.entry.goal.now w) }
 {
-    let len = symbol_length(w);
+    let len = span_length(w);
     let left = text_of(v, texts.sheet, texts.goal);
     let right = text_of(w, texts.sheet, texts.goal);
-    symbol_length(v) == len && same_bytes(left, symbol_place(v), right, symbol_place(w), len)
+    span_length(v) == len && same_bytes(left, symbol_place(v), right, symbol_place(w), len)
 }
 
 // Whether the symbol of a number has the name of a word and so many arguments.
@@ -42,7 +43,7 @@ fn is_symbol(texts: Texts, symbols: &[u32], k: usize, w: u32, arguments: u32) ->
     symbols[j] == arguments && same_name(texts, symbols[k], w)
 }
 
-// The number of the symbol with the name of a word and so many arguments, if it is among those so far.
+/// The number of the symbol with the name of the symbol's word w and so many arguments, if it is among the first `count`.
 pub fn find_symbol(
     texts: Texts,
     symbols: &[u32],

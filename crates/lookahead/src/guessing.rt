@@ -11,8 +11,10 @@ use run_layout::terms::{At, pack, unpack};
 use run_layout::{CELLS, LOADED_NODE, cell_of};
 use syntax::FIRST_NAME;
 
+/// The words of a row.
 pub const ROW_SIZE: usize = 3;
 
+/// The most rows that are kept at once.
 pub const MOST_ROWS: usize = CELLS;
 
 // By which the left of two words counts more than the right where a slot is chosen.
@@ -38,7 +40,7 @@ struct Row {
     right: At,
 }
 
-// A row's words at a place. (`words::tables::put_three` asks that the words are there; here nothing is asked of the room's length.)
+/// Writes a row's words at a place, those of them that are within the room.
 pub fn put_row(t: &mut [u32], i: usize, left: usize, e: usize, right: usize)
     requires { Small i }
     ensures { KeptBelow i t.old t.new }
@@ -48,8 +50,7 @@ pub fn put_row(t: &mut [u32], i: usize, left: usize, e: usize, right: usize)
     put(t, i + 2, right);
 }
 
-// How many words from p on, up to e, are the same names as from q on. (Every second word is a node's size and the first variable ends it, so no slices are
-// compared.)
+// How many words from p on, up to e, are the same names as from q on. The first variable ends it.
 fn same_words(nodes: &[u32], p: usize, e: usize, q: usize) -> usize
     requires { (Word p) × (Word e × Word q) }
     ensures { result ≤ e + 1 }
@@ -198,8 +199,7 @@ impl Guessing {
     fn run(&mut self, tables: Tables, room: &mut [u32]) -> Result<(), Stopped>
         ensures { self.new.left ≤ self.old.left }
     {
-        // Ends after at most so many turns as are left: each takes one of them and one for each node that it passed and each link that it followed, which is
-        // known only then. A range over the turns would count them beside `left`, which has to be asked all the same.
+        // Ends after at most so many turns as are left: each takes one of them and one for each node that it passed and each link that it followed.
         while 0 < self.left && 0 < self.rows {
             self.turn(tables, room)?;
         }
@@ -207,7 +207,8 @@ impl Guessing {
     }
 }
 
-// How many guesses so many rows come to, in at most so many turns, the first being that cell x is bound to a word.
+/// Guesses what will be bound, in at most so many turns: first cell x, to a word, and then what the rows come to. How many guesses there are; they stand in
+/// `GUESSES`.
 pub fn guess(
     tables: Tables,
     room: &mut [u32],

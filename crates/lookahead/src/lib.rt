@@ -19,7 +19,7 @@ use crate::tables::room::{LIST, WORK, get};
 use run_layout::terms::{At, pack};
 use run_layout::{MEMO, PAIR_SIZE, SIDE_SIZE, STACK};
 
-// Where the proposed cells stand in the scratch words.
+/// Where the proposed cells stand in the scratch words.
 pub const PROPOSED: usize = MEMO + LIST;
 
 // So many pairs of the work stack are looked at, from the top on.
@@ -36,7 +36,7 @@ fn term_at(scratch: &[u32], i: usize) -> At
     }
 }
 
-// The pair of the work stack at a place, as a row at another. (A pair has six words and a row three others, so no slice is copied.)
+// The pair of the work stack at a place, as a row at another.
 fn copy_pair(tables: Tables, scratch: &mut [u32], from: usize, to: usize)
     requires { (Small from) × Small to }
     ensures { KeptBelow to scratch.old scratch.new }
@@ -61,7 +61,7 @@ fn copy_stack(tables: Tables, scratch: &mut [u32], h: usize, n: usize)
     }
 }
 
-// Where the words begin that may be overwritten. (With the number itself in a slice's bound the check takes ten times as long.)
+// Where the words begin that may be overwritten. A function, so that the check of the slice's bound is quick.
 fn lent_from() -> usize
     ensures { result ≡ memo }
 {
@@ -77,8 +77,8 @@ fn propose(tables: Tables, room: &mut [u32], rows: usize, x: usize, w: usize, tu
     sort_most(tables, room, n, turns)
 }
 
-// Cell x is about to be bound to a term, with h pairs on the work stack: how many cells are proposed. The work is at most that of some such
-// number of turns at the stack. The words from the memo on are overwritten.
+/// Cell x is about to be bound to a term, with h pairs on the work stack: how many cells are proposed. The work is at most that of some such
+/// number of turns at the stack. The words from the memo on are overwritten.
 pub fn look_ahead(
     tables: Tables,
     scratch: &mut [u32],

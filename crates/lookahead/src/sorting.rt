@@ -33,7 +33,7 @@ struct Sorting {
 #[derive(Clone, Copy)]
 struct Cycle;
 
-// How far a search has come with a cell. (Three states, of which none has a value: no Option and no flag.)
+// How far a search has come with a cell.
 #[derive(Clone, Copy, PartialEq, Eq)]
 enum Stage {
     New,
@@ -151,7 +151,7 @@ impl Sorting {
         Ok(())
     }
 
-    // One turn at the cell opened last: its next cell, or it is done. A cell that is open is bound; were it not, it would be read as bound to the first node.
+    // One turn at the cell opened last: its next cell, or it is done. A cell that is open is bound, so the 0 for an unbound one is of no account.
     fn turn(&mut self, tables: Tables, room: &mut [u32]) -> Result<(), Cycle>
         requires { self.old.top < cells }
         ensures { GoesOn (self.old.left - 1) self.old self.new }
@@ -191,8 +191,7 @@ impl Sorting {
     fn run(&mut self, tables: Tables, room: &mut [u32]) -> Result<(), Cycle>
         ensures { GoesOn self.old.left self.old self.new }
     {
-        // Ends after at most so many turns as are left: each takes one of them and one for each node that it passed, which is known only then. A range over the
-        // turns would count them beside `left`, which has to be asked all the same.
+        // Ends after at most so many turns as are left: each takes one of them and one for each node that it passed.
         while 0 < self.left {
             if self.top < CELLS {
                 self.turn(tables, room)?;
@@ -206,8 +205,8 @@ impl Sorting {
     }
 }
 
-// The cells of the first n guesses and all that they lead to, or of as many as have no cycle, found by halving: how many are sorted. The turns are those of all
-// attempts.
+/// Sorts the cells of the first n guesses and all that they lead to, or of as many as have no cycle, found by halving: how many are sorted. The turns are those
+/// of all attempts.
 pub fn sort_most(tables: Tables, room: &mut [u32], n: usize, turns: usize) -> usize
     requires { Word n }
     ensures { result ≤ cells }
@@ -219,8 +218,7 @@ pub fn sort_most(tables: Tables, room: &mut [u32], n: usize, turns: usize) -> us
     let mut left = all.left;
     let mut low = 0;
     let mut high = n;
-    // Each attempt halves what lies between. These are numbers and no items of a slice, and an attempt sorts anew, takes turns and may take the last, so no
-    // search of the library serves.
+    // Each attempt sorts anew and halves what lies between.
     while low + 1 < high {
         let middle = (low + high) / 2;
         let mut part = Sorting::of(middle, left);

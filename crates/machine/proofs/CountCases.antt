@@ -1,4 +1,4 @@
--- Both counts on short texts, most of which the modes refuse: demand 3 is not vacuous. The numbers were given by the separately written engine.
+-- Both counts on short texts, most of which the modes refuse: the zero counts are not vacuous. The numbers were given by the separately written engine.
 use Prim.Native.Nat.{ℕ}
 use mathlib.Core.Bool.{true, false}
 use Prim.Native.String.{String}

@@ -1,5 +1,5 @@
 pub mod Compute
-pub mod Cases
+pub mod RunCases
 pub mod CountCases
 pub mod TraceCases
 pub mod DeterminacyCases

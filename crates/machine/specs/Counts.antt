@@ -1,4 +1,4 @@
--- Open inputs and open outputs, tallied over the list of steps from the goal alone (demand 3; RULES, "No result is left open").
+-- Open inputs and open outputs, tallied over the list of steps from the goal alone (RULES, "No result is left open").
 use Rattle.std.specs.Prelude.{ℕ, zero, suc, ◌+◌, Bool, true, false, not, ◌&&◌, ◌||◌, List, [], ◌∷◌, leb, eqb, length}
 use Rattle.syntax.specs.Terms.{Atom, Literal, call, equation, truth, falsity, either, Mark, input, output, Sheet, Goal}
 use Rattle.mode_rules.specs.Modes.{marks_for, count_faulty, list_of}

@@ -1,7 +1,7 @@
 -- Runs in the first order of ends, where `wanted` came before `done`; REQUESTS (vii) turned the two round.
 use Rattle.std.specs.Prelude.{ℕ, zero, suc, ◌+◌, Bool, true, false, ◌&&◌, List, [], ◌∷◌, leb, ltb, eqb, length}
 use Rattle.syntax.specs.Terms.{Sheet, Goal}
-use Rattle.machine.specs.Runs.{Kind, Wanted, Done, Steps, Full, Deep, Progress, is_empty, is_answer, next_line, goes_deeper, Ending, first_end, advance}
+use Rattle.machine.specs.Runs.{RunEnd, Wanted, Done, Steps, Full, Deep, Progress, is_empty, is_answer, next_line, goes_deeper, Ending, first_end, advance}
 use Rattle.machine.specs.Runs.{Ended, end_or, begun}
 
 abbrev pub endings_earlier : Sheet → Goal → ℕ → ℕ → ℕ → Progress → List Ending
@@ -21,7 +21,7 @@ unfoldable pub run_earlier : Sheet → Goal → ℕ → ℕ → ℕ → Ended
 run_earlier sh g allowance wanted room = run_from_earlier sh g wanted room allowance (begun sh g)
 
 -- "Their kind turns from `wanted` to `done`": of a run that ended by the wanted count, where no alternative is left.
-unfoldable pub turned_kind : Kind → Bool → Kind
+unfoldable pub turned_kind : RunEnd → Bool → RunEnd
 turned_kind Wanted true = Done
 turned_kind Wanted false = Wanted
 turned_kind Done b = Done

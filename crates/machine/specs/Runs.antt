@@ -6,8 +6,8 @@ use Rattle.syntax.specs.Terms.{Literal, call, equation, truth, falsity, either, 
 use Rattle.syntax.specs.Verdicts.{Outcome, refused, accepted}
 use Rattle.syntax.specs.declared.Text.{Text}
 use Rattle.syntax.specs.declared.Text.TheVariants.{Sheet as in_sheet, Goal as in_goal, Neither}
-pub use Rattle.syntax.specs.declared.Kind.{Kind}
-pub use Rattle.syntax.specs.declared.Kind.TheVariants.{Wanted, Done, Steps, Full, Deep}
+pub use Rattle.syntax.specs.declared.RunEnd.{RunEnd}
+pub use Rattle.syntax.specs.declared.RunEnd.TheVariants.{Wanted, Done, Steps, Full, Deep}
 pub use Rattle.syntax.specs.declared.Report.{Report}
 use Rattle.syntax.specs.Verdicts.{Run}
 pub use Rattle.syntax.specs.declared.RunSettings.{RunSettings}
@@ -70,7 +70,7 @@ goes_deeper sh (a ∷ below) = tries_first sh a a.literals && leb longest_path (
 
 -- a kind of end and whether it applies
 pub record Ending : Type 0 where
-  pub kind : Kind
+  pub kind : RunEnd
   pub applies : Bool
 
 -- The tests before each step, in their order; `left` is what is left of the allowance (the word of RULES for the most steps). REQUESTS (vii): "Both
@@ -84,7 +84,7 @@ endings sh g wanted room left p =
     record { kind = Deep; applies = goes_deeper sh p.pile } ∷ []
 
 -- the first that applies
-unfoldable pub first_end : List Ending → Option Kind
+unfoldable pub first_end : List Ending → Option RunEnd
 first_end [] = none
 first_end (e ∷ es) = elim e.applies [ true ↦ some e.kind | false ↦ first_end es ]
 
@@ -106,11 +106,11 @@ advanced sh g (suc k) p = advanced sh g k (advance sh g p)
 
 -- where a run ended, and how
 pub record Ended : Type 0 where
-  pub kind : Kind
+  pub kind : RunEnd
   pub at : Progress
 
 -- an end, or else on
-unfoldable pub end_or : Progress → Option Kind → (Unit {0} → Ended) → Ended
+unfoldable pub end_or : Progress → Option RunEnd → (Unit {0} → Ended) → Ended
 end_or p (some k) on = record { kind = k; at = p }
 end_or p none on = on tt
 

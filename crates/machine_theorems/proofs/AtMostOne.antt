@@ -1,7 +1,7 @@
 -- REQUESTS (xii): "On a yes, and without a trace, a run of any accepted goal without such brackets writes at most one line."
 --
 -- An alternative is dead when it stands at a call and no clause from its next one on unifies. On a yes every alternative that a clause was tried
--- for with success is dead: the inputs of its call are closed (demand 3), so two heads that unify with it have a common instance. So either nothing is
+-- for with success is dead: the inputs of its call are closed (no argument is left open), so two heads that unify with it have a common instance. So either nothing is
 -- written yet and all below the top are dead, or at most one line is written and all are dead.
 use Prim.Native.Nat.{ℕ, zero, suc, ◌+◌, ◌≤◌, ◌<◌}
 use native.Mathlib.Omega.{arith}
@@ -33,8 +33,8 @@ use Rattle.machine_theorems.proofs.Terms.{resolve_all, resolve-app, resolve-nil,
 use Rattle.machine_theorems.proofs.Unifier.{unify-some}
 use Rattle.machine_theorems.proofs.Grounding.{Closed, Same, SameAll, app-same, cons_same, nil-cons, same-arity, same-predicate, Marked, marks-same}
 use Rattle.machine_theorems.proofs.Safety.{ClosedArguments, Safe, First}
-use Rattle.machine_theorems.proofs.Demand3.{Good, Passes, sheet-passes, outcome-good, start-good}
-use Rattle.machine_theorems.proofs.EveryRun.{run_spec, refused-accepted, faultless-none, sheet-passes as text-passes, goal-passes, demand-3-runs}
+use Rattle.machine_theorems.proofs.NothingOpen.{Good, Passes, sheet-passes, outcome-good, start-good}
+use Rattle.machine_theorems.proofs.EveryRun.{run_spec, refused-accepted, faultless-none, sheet-passes as text-passes, goal-passes, nothing-open-in-runs}
 use Rattle.machine_theorems.proofs.Lines.{run-lines}
 use Rattle.machine_theorems.proofs.Determinacy.{none-determinate, determinate-exactly}
 
@@ -468,7 +468,7 @@ module _ (sheet goal : List ℕ) (yes-said : judged sheet ≡ single) (plain : P
       }
     where
       over : RunOver sheet goal asked room r text
-      over = demand-3-runs sheet goal asked room r text e
+      over = nothing-open-in-runs sheet goal asked room r text e
 
       sh : Sheet
       sh = over.texts.sh

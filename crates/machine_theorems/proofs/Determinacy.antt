@@ -17,7 +17,7 @@ use Rattle.machine.specs.Determinacy.{without_brackets, first_bracketed, inputs,
 use Rattle.machine.proofs.Tests.{both, and, holds, some-eq, some-none}
 use Rattle.machine_theorems.proofs.Terms.{resolve_all, resolve-app, resolve-nil, resolve-cons, Grows, grows-refl, grows-trans}
 use Rattle.machine_theorems.proofs.Unifier.{unify-spec}
-use Rattle.machine_theorems.proofs.Demand3.{unified-grows}
+use Rattle.machine_theorems.proofs.NothingOpen.{unified-grows}
 
 -- ---- bindings as a substitution
 

@@ -7,15 +7,15 @@ use mathlib.Core.Option.{Option, none, some}
 use lib.Dec.{leb, ltb, eqb}
 use lib.ListN.{length}
 use Rattle.syntax.specs.Terms.{Sheet, Goal}
-use Rattle.machine.specs.Runs.{Kind, Wanted, Done, Steps, Full, Deep, Progress, Ended, is_empty, is_answer, next_line, goes_deeper, first_end, advance, end_or, run_from, begun, run}
+use Rattle.machine.specs.Runs.{RunEnd, Wanted, Done, Steps, Full, Deep, Progress, Ended, is_empty, is_answer, next_line, goes_deeper, first_end, advance, end_or, run_from, begun, run}
 use Rattle.machine.specs.Earlier.{run_from_earlier, run_earlier, turned_kind, turned}
 
 -- the first end in each order, by the five tests
-abbrev first : Bool → Bool → Bool → Bool → Bool → Option Kind
+abbrev first : Bool → Bool → Bool → Bool → Bool → Option RunEnd
 first a b c d e =
     elim b [ true ↦ some Done | false ↦ elim a [ true ↦ some Wanted | false ↦ elim c [ true ↦ some Steps | false ↦ elim d [ true ↦ some Full | false ↦ elim e [ true ↦ some Deep | false ↦ none ] ] ] ] ]
 
-abbrev first_earlier : Bool → Bool → Bool → Bool → Bool → Option Kind
+abbrev first_earlier : Bool → Bool → Bool → Bool → Bool → Option RunEnd
 first_earlier a b c d e =
     elim a [ true ↦ some Wanted | false ↦ elim b [ true ↦ some Done | false ↦ elim c [ true ↦ some Steps | false ↦ elim d [ true ↦ some Full | false ↦ elim e [ true ↦ some Deep | false ↦ none ] ] ] ] ]
 

@@ -1,5 +1,5 @@
--- Every run is the step repeated until the first end that applies, so its steps are the beginning of the list that demand 3 speaks of; and demand 3
--- over texts, whatever the allowance, the wanted answers and the room.
+-- Every run is the step repeated until the first end that applies, so its steps are the beginning of the list that the counts speak of; and no
+-- argument is left open over texts, whatever the allowance, the wanted answers and the room.
 use Prim.Native.Nat.{ℕ, zero, suc, ◌+◌, ◌≤◌, ◌<◌}
 use native.Mathlib.Omega.{arith}
 use native.Mathlib.Nat.{not-suc-le-zero}
@@ -18,10 +18,10 @@ use Rattle.syntax.specs.Verdicts.{Accepted, Refused}
 use Rattle.mode_rules.specs.Modes.{sheet_fault, goal_fault}
 use Rattle.mode_rules.specs.Checking.{faultless, checked_from, checked_with, checked_sheet, checked_goal_from, checked_goal, goal_answer, check_goal_from, check_goal_verdict}
 use Rattle.machine.specs.Machine.{Alternative, step, pile_after}
-use Rattle.machine.specs.Runs.{Kind, Wanted, Done, Steps, Progress, is_empty, endings, first_end, advance, advanced, end_or, run_from, begun, run, Report, RunSettings, RunOutcome, stopped, ran, over_goal, over_sheet, in_range, run_outcome}
+use Rattle.machine.specs.Runs.{RunEnd, Wanted, Done, Steps, Progress, is_empty, endings, first_end, advance, advanced, end_or, run_from, begun, run, Report, RunSettings, RunOutcome, stopped, ran, over_goal, over_sheet, in_range, run_outcome}
 use Rattle.machine.specs.Counts.{counted_on, counted_step, tally}
 use Rattle.machine.specs.Claims.{BothZero, EndsAfter, Beginning, ZeroOver, RunOver}
-use Rattle.machine_theorems.proofs.Demand3.{demand-3}
+use Rattle.machine_theorems.proofs.NothingOpen.{nothing-open}
 
 -- ---- a run is the step repeated
 
@@ -31,10 +31,10 @@ module _ (sh : Sheet) (g : Goal) (wanted room : ℕ) where
   unfolding first_end
   used-up p e = go (leb wanted p.answers) (is_empty p.pile) e
     where
-      never : (k : Kind) → some k ≡ none → ⊥
+      never : (k : RunEnd) → some k ≡ none → ⊥
       never k q = let z : ◌≡◌ {A = ℕ} 0 1 = cc in omega arith
 
-      go : (a b : Bool) → ◌≡◌ {A = Option Kind} (elim b [ true ↦ some Done | false ↦ elim a [ true ↦ some Wanted | false ↦ some Steps ] ]) none → ⊥
+      go : (a b : Bool) → ◌≡◌ {A = Option RunEnd} (elim b [ true ↦ some Done | false ↦ elim a [ true ↦ some Wanted | false ↦ some Steps ] ]) none → ⊥
       go a true q = never Done q
       go true false q = never Wanted q
       go false false q = never Steps q
@@ -43,7 +43,7 @@ module _ (sh : Sheet) (g : Goal) (wanted room : ℕ) where
   unfolding run_from end_or advanced
   run_ends zero p = go (first_end (endings sh g wanted room 0 p)) refl
     where
-      go : (o : Option Kind) → first_end (endings sh g wanted room 0 p) ≡ o → EndsAfter sh g 0 wanted room p (end_or p o (λ _. record { kind = Steps; at = p }))
+      go : (o : Option RunEnd) → first_end (endings sh g wanted room 0 p) ≡ o → EndsAfter sh g 0 wanted room p (end_or p o (λ _. record { kind = Steps; at = p }))
       go none e = absurd (used-up p e)
       go (some k) e = record { taken = 0; left = 0; within = refl; state = refl; applies = e; none_before = λ j l q h. absurd (not-suc-le-zero h) }
   run_ends (suc n) p = go (first_end (endings sh g wanted room (suc n) p)) refl (run_ends n (advance sh g p))
@@ -54,7 +54,7 @@ module _ (sh : Sheet) (g : Goal) (wanted room : ℕ) where
       before m e h zero l q r = subst (λ (x : ℕ). first_end (endings sh g wanted room x p) ≡ none) (let z : suc n ≡ l = omega arith in z) e
       before m e h (suc k) l q r = h k l (omega arith) (omega arith)
 
-      go : (o : Option Kind) → first_end (endings sh g wanted room (suc n) p) ≡ o → EndsAfter sh g n wanted room (advance sh g p) (run_from sh g wanted room n (advance sh g p))
+      go : (o : Option RunEnd) → first_end (endings sh g wanted room (suc n) p) ≡ o → EndsAfter sh g n wanted room (advance sh g p) (run_from sh g wanted room n (advance sh g p))
           → EndsAfter sh g (suc n) wanted room p (end_or p o (λ _. run_from sh g wanted room n (advance sh g p)))
       go none e i =
           let w : i.taken + i.left ≡ n = i.within in
@@ -114,18 +114,18 @@ tally-pile sh g (suc n) = go (tally sh g n).pile refl ∙ ap (step sh) (tally-pi
     go [] e = e
     go (a ∷ below) e = refl
 
--- ---- demand 3 in every run
+-- ---- no argument left open in every run
 
 -- In every run: whatever its settings, its steps are those that the tally went over, and the counts are zero.
-pub demand-3-run : (stored : Bool) (sh : Sheet) (g : Goal) → sheet_fault stored sh ≡ none → goal_fault sh g ≡ none → (allowance wanted room : ℕ)
+pub nothing-open-in-run : (stored : Bool) (sh : Sheet) (g : Goal) → sheet_fault stored sh ≡ none → goal_fault sh g ≡ none → (allowance wanted room : ℕ)
     → ((tally sh g (run sh g allowance wanted room).at.steps).pile ≡ (run sh g allowance wanted room).at.pile) × BothZero sh g (run sh g allowance wanted room).at.steps
-demand-3-run stored sh g s e allowance wanted room =
-    (tally-pile sh g n ∙ sym (run-begins sh g allowance wanted room).pile, demand-3 stored sh g s e n)
+nothing-open-in-run stored sh g s e allowance wanted room =
+    (tally-pile sh g n ∙ sym (run-begins sh g allowance wanted room).pile, nothing-open stored sh g s e n)
   where
     n : ℕ
     n = (run sh g allowance wanted room).at.steps
 
--- ---- demand 3 over texts
+-- ---- no argument left open over texts
 
 pub accepted-eq : {A : Type 0} (x y : A) → accepted x ≡ accepted y → x ≡ y
 accepted-eq x y e = cc
@@ -156,20 +156,20 @@ goal-passes sh s g e = go (goal_outcome s) e
     go (refused r) q = absurd (refused-accepted r g q)
     go (accepted x) q = subst (λ (y : Goal). goal_fault sh y ≡ none) (faultless-none x g (goal_fault sh x) q).1 (faultless-none x g (goal_fault sh x) q).0
 
--- DEMAND 3 over texts: a sheet, marked as stored earlier or not, and a goal that checking accepts, and any number of steps.
-pub demand-3-texts : (stored : Bool) (sheet goal : List ℕ) (sh : Sheet) (g : Goal) → checked_with stored sheet ≡ accepted sh → checked_goal sh goal ≡ accepted g
+-- NO ARGUMENT LEFT OPEN over texts: a sheet, marked as stored earlier or not, and a goal that checking accepts, and any number of steps.
+pub nothing-open-over-texts : (stored : Bool) (sheet goal : List ℕ) (sh : Sheet) (g : Goal) → checked_with stored sheet ≡ accepted sh → checked_goal sh goal ≡ accepted g
     → (n : ℕ) → BothZero sh g n
-demand-3-texts stored sheet goal sh g s e n = demand-3 stored sh g (sheet-passes stored sheet sh s) (goal-passes sh goal g e) n
+nothing-open-over-texts stored sheet goal sh g s e n = nothing-open stored sh g (sheet-passes stored sheet sh s) (goal-passes sh goal g e) n
 
 zero-over : (stored : Bool) (sheet goal : List ℕ) (sh : Sheet) (g : Goal) → checked_with stored sheet ≡ accepted sh → checked_goal sh goal ≡ accepted g
     → ZeroOver stored sheet goal
 zero-over stored sheet goal sh g s e =
-    record { sh = sh; g = g; sheet_accepted = s; goal_accepted = e; zero = demand-3-texts stored sheet goal sh g s e }
+    record { sh = sh; g = g; sheet_accepted = s; goal_accepted = e; zero = nothing-open-over-texts stored sheet goal sh g s e }
 
 -- The same from the verdict that checking gives of two texts, which is without the mark.
-pub demand-3-verdict : (sheet goal : List ℕ) (declarations clauses : ℕ) → check_goal_verdict sheet goal ≡ Accepted declarations clauses → ZeroOver false sheet goal
+pub nothing-open-accepted : (sheet goal : List ℕ) (declarations clauses : ℕ) → check_goal_verdict sheet goal ≡ Accepted declarations clauses → ZeroOver false sheet goal
 unfolding check_goal_verdict check_goal_from goal_answer
-demand-3-verdict sheet goal d c e = over-sheet (checked_sheet sheet) refl e
+nothing-open-accepted sheet goal d c e = over-sheet (checked_sheet sheet) refl e
   where
     refused-verdict : (t : Text) (r : Refusal) → Refused t r ≡ Accepted d c → ⊥
     refused-verdict t r q = let z : ◌≡◌ {A = ℕ} 0 1 = cc in omega arith
@@ -183,11 +183,11 @@ demand-3-verdict sheet goal d c e = over-sheet (checked_sheet sheet) refl e
     over-sheet (refused r) h q = absurd (refused-verdict in_sheet r q)
     over-sheet (accepted sh) h q = over-goal sh h (checked_goal sh goal) refl q
 
--- DEMAND 3 in every run over texts, whatever the allowance, the wanted answers, the mark and the room.
-pub demand-3-runs : (sheet goal : List ℕ) (asked : RunSettings) (room : ℕ) (r : Report) (text : List ℕ) → run_outcome sheet goal asked room ≡ ran r text
+-- NO ARGUMENT LEFT OPEN in every run over texts, whatever the allowance, the wanted answers, the mark and the room.
+pub nothing-open-in-runs : (sheet goal : List ℕ) (asked : RunSettings) (room : ℕ) (r : Report) (text : List ℕ) → run_outcome sheet goal asked room ≡ ran r text
     → RunOver sheet goal asked room r text
 unfolding run_outcome over_sheet over_goal zero-over
-demand-3-runs sheet goal asked room r text e = ranged (in_range asked.allowance asked.wanted) e
+nothing-open-in-runs sheet goal asked room r text e = ranged (in_range asked.allowance asked.wanted) e
   where
     stopped-ran : (t : Text) (x : Refusal) → stopped t x ≡ ran r text → ⊥
     stopped-ran t x q = let z : ◌≡◌ {A = ℕ} 0 1 = cc in omega arith

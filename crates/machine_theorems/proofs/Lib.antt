@@ -4,7 +4,7 @@ pub mod Unifier
 pub mod Piles
 pub mod Grounding
 pub mod Safety
-pub mod Demand3
+pub mod NothingOpen
 pub mod Reached
 pub mod Next
 pub mod Low
@@ -16,7 +16,7 @@ pub mod Determinacy
 pub mod FirstPair
 pub mod AtMostOne
 pub mod Earlier
-pub mod Witness
+pub mod SafetyWitness
 pub mod DeterminacyWitness
 pub mod Names
 pub mod Lines

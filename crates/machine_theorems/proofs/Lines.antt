@@ -18,11 +18,11 @@ use Rattle.machine.specs.Substitution.{Variable, same_variable, is_later, RTerm,
 use Rattle.machine.specs.Unification.{Difference, same, clash, apart, differ_variables, differ_mixed, or_else, differ, differ_all, bound, rounds, places, unify}
 use Rattle.machine.specs.Machine.{Pending, Alternative, path, pending, nth_clause, clause_at, gone, equated, moved_on, laid, tried, on_top, called, worked, worked_on, outcome, start}
 use Rattle.machine.specs.Answers.{Piece, byte, unbound, bytes_then, spelt, spelt_args, spelt_more, place_of, numbered, bytes_of, is_anonymous, all_anonymous, values_from, line}
-use Rattle.machine.specs.Runs.{Kind, Done, Wanted, Steps, Full, Deep, Progress, is_empty, is_answer, line_with, next_line, goes_deeper, endings, first_end, one_if, advance, end_or, run_from, begun, run, Report, RunSettings, ran, reported, run_outcome}
+use Rattle.machine.specs.Runs.{RunEnd, Done, Wanted, Steps, Full, Deep, Progress, is_empty, is_answer, line_with, next_line, goes_deeper, endings, first_end, one_if, advance, end_or, run_from, begun, run, Report, RunSettings, ran, reported, run_outcome}
 use Rattle.machine.specs.Claims.{RunOver}
 use Rattle.machine_theorems.proofs.Names.{Feedless, FeedlessAll, InLiteral, InBody, InClause, InClauses, EachFeedless, InGoal, sheet-names, goal-names}
 use Rattle.machine_theorems.proofs.Piles.{All, all-step}
-use Rattle.machine_theorems.proofs.EveryRun.{demand-3-runs}
+use Rattle.machine_theorems.proofs.EveryRun.{nothing-open-in-runs}
 
 -- ---- terms of a run, and bindings
 
@@ -360,11 +360,11 @@ module _ (sh : Sheet) (g : Goal) (wanted room : ℕ) (clauses : InClauses sh.cla
       go (is_empty p.pile) (leb wanted p.answers) (eqb left 0) (is_answer p.pile && ltb room (length p.text + length (next_line g p.pile)))
       (goes_deeper sh p.pile) e
     where
-      never : (k : Kind) → some k ≡ none → ⊥
+      never : (k : RunEnd) → some k ≡ none → ⊥
       never k q = let z : ◌≡◌ {A = ℕ} 0 1 = cc in omega arith
 
       go : (a b c d f : Bool)
-          → ◌≡◌ {A = Option Kind} (elim a [ true ↦ some Done | false ↦ elim b [ true ↦ some Wanted | false ↦ elim c [ true ↦ some Steps | false ↦ elim d [ true ↦ some Full | false ↦ elim f [ true ↦ some Deep | false ↦ none ] ] ] ] ]) none
+          → ◌≡◌ {A = Option RunEnd} (elim a [ true ↦ some Done | false ↦ elim b [ true ↦ some Wanted | false ↦ elim c [ true ↦ some Steps | false ↦ elim d [ true ↦ some Full | false ↦ elim f [ true ↦ some Deep | false ↦ none ] ] ] ] ]) none
           → d ≡ false
       go true b c d f q = absurd (never Done q)
       go false true c d f q = absurd (never Wanted q)
@@ -385,12 +385,12 @@ module _ (sh : Sheet) (g : Goal) (wanted room : ℕ) (clauses : InClauses sh.cla
   unfolding run_from end_or
   from-lined zero p h = go (first_end (endings sh g wanted room 0 p))
     where
-      go : (o : Option Kind) → Lined (end_or p o (λ _. record { kind = Steps; at = p })).at
+      go : (o : Option RunEnd) → Lined (end_or p o (λ _. record { kind = Steps; at = p })).at
       go none = h
       go (some k) = h
   from-lined (suc n) p h = go (first_end (endings sh g wanted room (suc n) p)) refl (λ e. from-lined n (advance sh g p) (advance-lined (suc n) p e h))
     where
-      go : (o : Option Kind) → first_end (endings sh g wanted room (suc n) p) ≡ o
+      go : (o : Option RunEnd) → first_end (endings sh g wanted room (suc n) p) ≡ o
           → (first_end (endings sh g wanted room (suc n) p) ≡ none → Lined (run_from sh g wanted room n (advance sh g p)).at)
           → Lined (end_or p o (λ _. run_from sh g wanted room n (advance sh g p))).at
       go none e k = k e
@@ -415,7 +415,7 @@ unfolding reported
 run-written sheet goal asked room r text e = go o.reports
   where
     o : RunOver sheet goal asked room r text
-    o = demand-3-runs sheet goal asked room r text e
+    o = nothing-open-in-runs sheet goal asked room r text e
 
     sh : Sheet
     sh = o.texts.sh

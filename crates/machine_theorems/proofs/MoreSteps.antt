@@ -16,7 +16,7 @@ use Rattle.syntax.specs.declared.Text.TheVariants.{Sheet as in_sheet, Goal as in
 use Rattle.syntax.specs.declared.Refusal.{Refusal}
 use Rattle.syntax.specs.declared.Refusal.TheVariants.{Settings}
 use Rattle.mode_rules.specs.Checking.{checked_with, checked_goal}
-use Rattle.machine.specs.Runs.{Kind, Wanted, Done, Steps, Full, Deep, Progress, Ended, next_line, endings, first_end, advance, end_or, run_from, begun, run, resumed, RunSettings, RunOutcome, stopped, ran, reported, over_goal, in_range, run_outcome, run_answer, run_text}
+use Rattle.machine.specs.Runs.{RunEnd, Wanted, Done, Steps, Full, Deep, Progress, Ended, next_line, endings, first_end, advance, end_or, run_from, begun, run, resumed, RunSettings, RunOutcome, stopped, ran, reported, over_goal, in_range, run_outcome, run_answer, run_text}
 use Rattle.machine.specs.Traces.{trace_fault, traced_sheet, over_trace, over_traced, traced_outcome}
 use Rattle.machine.specs.MoreSteps.{IsPrefix, MoreSteps, NotBySteps, MoreStepsOver, NotReportedSteps, MoreStepsPublic}
 use Rattle.machine_theorems.proofs.Turns.{more-steps}
@@ -44,12 +44,12 @@ module _ (sh : Sheet) (g : Goal) (wanted room : ℕ) where
   unfolding run_from end_or
   run-begins zero p = go (first_end (endings sh g wanted room 0 p))
     where
-      go : (o : Option Kind) → IsPrefix p.text (end_or p o (λ _. record { kind = Steps; at = p })).at.text
+      go : (o : Option RunEnd) → IsPrefix p.text (end_or p o (λ _. record { kind = Steps; at = p })).at.text
       go none = begins-itself p.text
       go (some k) = begins-itself p.text
   run-begins (suc left) p = go (first_end (endings sh g wanted room (suc left) p)) (run-begins left (advance sh g p))
     where
-      go : (o : Option Kind) → IsPrefix (advance sh g p).text (run_from sh g wanted room left (advance sh g p)).at.text
+      go : (o : Option RunEnd) → IsPrefix (advance sh g p).text (run_from sh g wanted room left (advance sh g p)).at.text
           → IsPrefix p.text (end_or p o (λ _. run_from sh g wanted room left (advance sh g p))).at.text
       go none i = begins-through p.text (advance sh g p).text (run_from sh g wanted room left (advance sh g p)).at.text (advance-begins p) i
       go (some k) i = begins-itself p.text
@@ -62,7 +62,7 @@ module _ (sh : Sheet) (g : Goal) (wanted room : ℕ) where
       same : MoreSteps e e
       same = record { beginning = begins-itself e.at.text; equal = λ h. refl }
 
-      go : (k : Kind) → e.kind ≡ k
+      go : (k : RunEnd) → e.kind ≡ k
           → MoreSteps e (elim k as (λ _. Ended) [ Wanted ↦ e | Done ↦ e | Steps ↦ run_from sh g wanted room n e.at | Full ↦ e | Deep ↦ e ])
       go Wanted q = same
       go Done q = same

@@ -12,7 +12,7 @@ use Rattle.syntax.specs.Bytes.{class_of, in_word, in_numeral}
 use Rattle.syntax.specs.declared.TokenKind.{TokenKind}
 use Rattle.syntax.specs.declared.Class.{Class}
 use Rattle.syntax.specs.declared.Class.TheVariants.{Nothing, Blank, Percent, Lower, Upper, Digit, Colon, Single}
-use Rattle.syntax.specs.Tokens.{name_kind, variable_kind, numeral_kind, Gap, outside, in_comment, Move, on, at_token, move_of, skipped, run_length, word, dash_first, token_of, token_from, token_place, token_at, spelling}
+use Rattle.syntax.specs.Tokens.{name_kind, variable_kind, numeral_kind, Gap, outside, in_comment, Move, on, at_token, move_of, skipped, run_length, word, dash_first, token_of_class, token_from, token_place, token_at, spelling}
 use Rattle.syntax.specs.Numerals.{zero_digit, trimmed}
 use Rattle.syntax.specs.Terms.{Term, Terms, variable, compound, nil, cons, term_of, Literal, call, equation, truth, falsity, either, Body, done, also, Clause, Sheet, Goal}
 use Rattle.syntax.specs.Reading.{Cursor, spelt, cursor_at, next, with_new, at_start}
@@ -84,8 +84,8 @@ neck-feedless b (d ∷ s) h = go (eqb d 45) refl
     go true e = feedless-cons b (take 1 (d ∷ s)) h (one-feedless d s (λ q. omega (arith, eqb-true d 45 e)))
     go false e = one-feedless b (d ∷ s) h
 
-token-of-feedless : (c : Class) (at b : ℕ) (s : List ℕ) → (b ≡ 10 → ⊥) → feeds (take (token_of c at s).len (b ∷ s)) ≡ 0
-unfolding token_of in_word in_numeral
+token-of-feedless : (c : Class) (at b : ℕ) (s : List ℕ) → (b ≡ 10 → ⊥) → feeds (take (token_of_class c at s).len (b ∷ s)) ≡ 0
+unfolding token_of_class in_word in_numeral
 token-of-feedless Lower at b s h = word-feedless name_kind at b in_word refl s h
 token-of-feedless Upper at b s h = word-feedless variable_kind at b in_word refl s h
 token-of-feedless Digit at b s h = word-feedless numeral_kind at b in_numeral refl s h
@@ -95,8 +95,8 @@ token-of-feedless Nothing at b s h = one-feedless b s h
 token-of-feedless Blank at b s h = one-feedless b s h
 token-of-feedless Percent at b s h = one-feedless b s h
 
-token-of-place : (c : Class) (at : ℕ) (s : List ℕ) → (token_of c at s).at ≡ at
-unfolding token_of word
+token-of-place : (c : Class) (at : ℕ) (s : List ℕ) → (token_of_class c at s).at ≡ at
+unfolding token_of_class word
 token-of-place Lower at s = refl
 token-of-place Upper at s = refl
 token-of-place Digit at s = refl
@@ -114,7 +114,7 @@ token-feedless s from = go (drop (token_place s from) s) refl (subst Starts (dro
     go : (u : List ℕ) → drop (token_place s from) s ≡ u → Starts u
         → feeds (take (token_from (token_place s from) u).len (drop (token_from (token_place s from) u).at s)) ≡ 0
     go [] e h = refl
-    go (b ∷ u) e h = ap (λ (l : List ℕ). feeds (take (token_of (class_of b) (token_place s from) u).len l)) (ap (λ (n : ℕ). drop n s) (token-of-place (class_of b) (token_place s from) u) ∙ e) ∙ token-of-feedless (class_of b) (token_place s from) b u h
+    go (b ∷ u) e h = ap (λ (l : List ℕ). feeds (take (token_of_class (class_of b) (token_place s from) u).len l)) (ap (λ (n : ℕ). drop n s) (token-of-place (class_of b) (token_place s from) u) ∙ e) ∙ token-of-feedless (class_of b) (token_place s from) b u h
 
 -- ---- what is read
 

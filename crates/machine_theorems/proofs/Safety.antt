@@ -1,4 +1,4 @@
--- The invariant behind demand 3, and that the modes give it.
+-- The invariant by which no argument is left open, and that the modes give it.
 --
 -- An alternative is safe when each call that it shows to have succeeded has closed outputs, and its first literal is safe as a continuation: a
 -- call's inputs are closed now, and whenever the bindings have grown so that its outputs are closed, the rest is safe; an equation: whenever the

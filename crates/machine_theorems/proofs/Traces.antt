@@ -1,4 +1,4 @@
--- Facts of a trace behind a sheet's clauses (REQUESTS (ix)): a sheet that is accepted stays so, demand 3 holds over both, in every run with a trace; the
+-- Facts of a trace behind a sheet's clauses (REQUESTS (ix)): a sheet that is accepted stays so, no argument is left open over both, in every run with a trace; the
 -- sheet's own clauses keep their numbers; and an empty trace is none. Assumes nothing.
 use Prim.Native.Nat.{ℕ, zero, suc, ◌+◌, ◌<◌}
 use native.Mathlib.Omega.{arith}
@@ -23,7 +23,7 @@ use Rattle.machine.specs.Machine.{nth_clause, clause_at}
 use Rattle.machine.specs.Runs.{Report, RunSettings, RunOutcome, stopped, ran, over_goal, over_sheet, in_range, run_outcome}
 use Rattle.machine.specs.Traces.{Trace, broken, records, records_from, records_of, Fact, facts_of, facts_in, fact_clause, fact_text, fact_clauses, with_facts, if_over, declares_seen, unseen, records_fault, trace_fault, traced_sheet, over_trace, over_traced, traced_outcome}
 use Rattle.machine.specs.Claims.{TracedOver}
-use Rattle.machine_theorems.proofs.Demand3.{demand-3}
+use Rattle.machine_theorems.proofs.NothingOpen.{nothing-open}
 use Rattle.machine_theorems.proofs.EveryRun.{sheet-passes, goal-passes, run-begins, tally-pile}
 
 -- ---- facts by themselves have no fault
@@ -172,11 +172,11 @@ without-trace sheet goal asked room =
     by (accepted sh) =
         ap (λ (x : Sheet). over_goal x asked.allowance asked.wanted room (checked_goal x goal)) (no-facts (length sheet) sh)
 
--- DEMAND 3 in every run with a trace, over sheet and facts together, whatever the allowance, the wanted answers, the mark and the room.
-pub demand-3-traced : (sheet goal trace : List ℕ) (asked : RunSettings) (room : ℕ) (r : Report) (text : List ℕ)
+-- NO ARGUMENT LEFT OPEN in every run with a trace, over sheet and facts together, whatever the allowance, the wanted answers, the mark and the room.
+pub nothing-open-traced : (sheet goal trace : List ℕ) (asked : RunSettings) (room : ℕ) (r : Report) (text : List ℕ)
     → traced_outcome sheet goal trace asked room ≡ ran r text → TracedOver sheet goal trace asked room r text
 unfolding traced_outcome over_traced over_trace over_goal
-demand-3-traced sheet goal trace asked room r text e = ranged (in_range asked.allowance asked.wanted) e
+nothing-open-traced sheet goal trace asked room r text e = ranged (in_range asked.allowance asked.wanted) e
   where
     stopped-ran : (t : Text) (x : Refusal) → stopped t x ≡ ran r text → ⊥
     stopped-ran t x q = let z : ◌≡◌ {A = ℕ} 0 1 = cc in omega arith
@@ -198,7 +198,7 @@ demand-3-traced sheet goal trace asked room r text e = ranged (in_range asked.al
                 trace_accepted = u;
                 goal_accepted = sym (goal-same (length sheet) sh (facts_in (records_of trace)) goal) ∙ h;
                 zero =
-                    demand-3 asked.stored (whole sh) g (trace_accepted asked.stored sh (length sheet) trace u (sheet-passes asked.stored sheet sh s))
+                    nothing-open asked.stored (whole sh) g (trace_accepted asked.stored sh (length sheet) trace u (sheet-passes asked.stored sheet sh s))
                     (goal-passes (whole sh) goal g h);
               };
           whole = whole sh;

@@ -14,7 +14,7 @@ use Rattle.syntax.specs.Reading.{Cursor, spelt, ok, cursor_at, next, with_new, o
 use Rattle.syntax.specs.declared.Token.{Token}
 use Rattle.syntax.proofs.Induction.{Kept, sheet-read, goal_read}
 use Rattle.lex.proofs.Placed.{Placed, placed_first, placed-ends, placed-next, placed-short}
-use Rattle.marks.specs.Standing.{NameAt, TermSpelt, TermsSpelt, stands_variable, stands_compound, stand_nil, stand_cons, LiteralSpelt, call_stands, equation_stands, truth_stands, falsity_stands, either_stands, BodySpelt, done_stands, also_stands, ClauseSpelt, no_clauses, clause_stands, DeclarationSpelt, no_declarations, declaration_stands, SheetSpelt, GoalSpelt}
+use Rattle.marks.specs.Spelt.{NameAt, TermSpelt, TermsSpelt, stands_variable, stands_compound, stand_nil, stand_cons, LiteralSpelt, call_stands, equation_stands, truth_stands, falsity_stands, either_stands, BodySpelt, done_stands, also_stands, ClauseSpelt, no_clauses, clause_stands, DeclarationSpelt, no_declarations, declaration_stands, SheetSpelt, GoalSpelt}
 
 -- the token at hand is one of the text, and the variables are within their limit
 record Reader (s : List ℕ) (st : Cursor) : Type 0 where

@@ -13,8 +13,8 @@ use Rattle.syntax.specs.Terms.{Term, Terms, nil, cons, Mark, input, output, free
 use Rattle.syntax.specs.Words.{term_words, terms_words, mark_number, marks_number, first_mark, other_marks}
 use Rattle.syntax.proofs.Words.{mark-some, marks-first, marks-others}
 use Rattle.mode_rules.specs.Modes.{Known, open_byte, same_mark, list_of, if_marked, OpenArgument, first_open, ground_if, ground_marked, ground_term}
-use Rattle.marks.specs.Standing.{AllNumbered, numbered_cons}
-use Rattle.words.specs.Tables.{Has}
+use Rattle.marks.specs.Spelt.{AllNumbered, numbered_cons}
+use Rattle.words.specs.Tables.{WordsAt}
 use Rattle.marks.specs.Tables.{TermAt, TermsAt, MarkedAt}
 use Rattle.marks.specs.Answers.{groundness_of}
 use Rattle.marks.specs.ArgumentsAnswers.{first_open_of}
@@ -84,7 +84,7 @@ lowest-of marks mark m [] t ts em ew = no-marks marks mark m t ts em ew
 lowest-of marks mark m (k ∷ ks) t ts em ew = one-mark marks mark m k ks t ts em ew
 
 marked_by : (table : List ℕ) (p stop marks mark next left : ℕ) (m : Mark) (ms : List Mark) (ts : Terms) → p < stop → ((u : TermAt table p) → next ≡ p + length (term_words u.term))
-    → left ≡ other_marks marks → Has table p (terms_words ts) → stop ≡ p + length (terms_words ts) → AllNumbered ts → marks ≡ marks_number ms → mark ≡ mark_number m
+    → left ≡ other_marks marks → WordsAt table p (terms_words ts) → stop ≡ p + length (terms_words ts) → AllNumbered ts → marks ≡ marks_number ms → mark ≡ mark_number m
     → Marked table p stop marks mark next left m ms ts
 unfolding term_words
 marked_by table p stop marks mark next left m ms nil l n el h e k em ew = absurd (omega arith)
@@ -96,7 +96,7 @@ marked_by table p stop marks mark next left m ms (cons t ts) l n el h e (numbere
       first = first;
       rest = record {
         terms = ts;
-        has = subst⁻¹ (λ (j : ℕ). Has table j (terms_words ts)) on (has_right table p (term_words t) (terms_words ts) h);
+        has = subst⁻¹ (λ (j : ℕ). WordsAt table j (terms_words ts)) on (has_right table p (term_words t) (terms_words ts) h);
         ends = omega (arith, length-append (term_words t) (terms_words ts));
         numbered = ks;
         listed = o.left;

@@ -12,9 +12,9 @@ use Rattle.syntax.specs.Words.{term_words, terms_words, first_name, functor, fun
 use Rattle.syntax.proofs.Words.{functor-arity, functor-length}
 use Rattle.mode_rules.specs.Modes.{Known, everything, equate_variable, equate_same, equate, equate_all}
 use Rattle.marks.specs.Functors.{same_functor}
-use Rattle.words.specs.Tables.{Has}
+use Rattle.words.specs.Tables.{WordsAt}
 use Rattle.marks.specs.Tables.{TermAt, PairAt, PairsAt}
-use Rattle.marks.specs.Standing.{NameAt, TermSpelt, TermsSpelt, stands_variable, stands_compound, stand_cons}
+use Rattle.marks.specs.Spelt.{NameAt, TermSpelt, TermsSpelt, stands_variable, stands_compound, stand_cons}
 use Rattle.marks.proofs.Places.{numbered, cons-long, sized}
 use Rattle.words.proofs.TablesLaws.{Node, node, has_left, has_right}
 use Rattle.marks.proofs.LookupLaws.{lengths_differ}
@@ -39,10 +39,10 @@ pub record Named (s table : List ℕ) (p : ℕ) (t : Term) : Type 0 where
   pub what : get_or table p 0 ≡ functor (arity args) (length name)
   pub place : get_or table (p + 2) 0 ≡ at
   pub name-at : NameAt s at name
-  pub has : Has table (p + 3) (terms_words args)
+  pub has : WordsAt table (p + 3) (terms_words args)
   pub stand : TermsSpelt s args
 
-pub named : (s table : List ℕ) (p : ℕ) (t : Term) → Has table p (term_words t) → TermSpelt s t → first_name ≤ get_or table p 0 → Named s table p t
+pub named : (s table : List ℕ) (p : ℕ) (t : Term) → WordsAt table p (term_words t) → TermSpelt s t → first_name ≤ get_or table p 0 → Named s table p t
 unfolding term_words
 named s table p (variable n at) h (stands_variable k) l = absurd (omega (arith, h.1))
 named s table p (compound at f ts) h (stands_compound n a k) l =
@@ -108,12 +108,12 @@ module _ {s table : List ℕ} {p q v x : ℕ} (ev : v ≡ get_or table p 0) (ex 
 
 -- ---- equations
 
-pub open-left : (table : List ℕ) (p : ℕ) (τ : Known) (t u : Term) → Has table p (term_words t) → get_or table p 0 < first_name → equate_variable t u τ ≡ equate t u τ
+pub open-left : (table : List ℕ) (p : ℕ) (τ : Known) (t u : Term) → WordsAt table p (term_words t) → get_or table p 0 < first_name → equate_variable t u τ ≡ equate t u τ
 unfolding term_words equate
 open-left table p τ (variable n at) u h l = refl
 open-left table p τ (compound at f ts) u h l = absurd (omega (arith, h.1))
 
-pub open-right : (table : List ℕ) (q : ℕ) (τ : Known) (t u : Term) → Has table q (term_words u) → get_or table q 0 < first_name → equate_variable t u τ ≡ equate t u τ
+pub open-right : (table : List ℕ) (q : ℕ) (τ : Known) (t u : Term) → WordsAt table q (term_words u) → get_or table q 0 < first_name → equate_variable t u τ ≡ equate t u τ
 unfolding term_words equate
 open-right table q τ (variable n at) u h l = refl
 open-right table q τ (compound at f ts) (variable m bt) h l = refl
@@ -189,7 +189,7 @@ pub record Split (s table : List ℕ) (p stop q : ℕ) (ts us : Terms) : Type 0 
   pub left_is : ts ≡ cons first.left rest.left
   pub right_is : us ≡ cons first.right rest.right
 
-split_by : (s table : List ℕ) (p stop q : ℕ) (ts us : Terms) → p < stop → Has table p (terms_words ts) → Has table q (terms_words us) → stop ≡ p + length (terms_words ts)
+split_by : (s table : List ℕ) (p stop q : ℕ) (ts us : Terms) → p < stop → WordsAt table p (terms_words ts) → WordsAt table q (terms_words us) → stop ≡ p + length (terms_words ts)
     → arity ts ≡ arity us → TermsSpelt s ts → TermsSpelt s us → Split s table p stop q ts us
 unfolding term_words
 split_by s table p stop q nil us l ht hu e a kt ku = absurd (omega arith)

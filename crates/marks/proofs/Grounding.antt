@@ -9,7 +9,7 @@ use lib.ListN.{length, get_or, set}
 use Rattle.syntax.specs.Terms.{Term, Terms, variable, compound}
 use Rattle.syntax.specs.Words.{term_words, first_name, node_words}
 use Rattle.mode_rules.specs.Modes.{Known, open_unless, open_byte, open_byte_of, ground_term, ground_terms}
-use Rattle.words.specs.Tables.{Has}
+use Rattle.words.specs.Tables.{WordsAt}
 use Rattle.words.proofs.TablesLaws.{node}
 use Rattle.marks.specs.Tables.{TermAt, TermsAt}
 use Rattle.marks.specs.Answers.{groundness_of}
@@ -18,13 +18,13 @@ use Rattle.marks.proofs.Places.{Opened, opened, none_left, Parted, parted}
 
 -- ---- one term
 
-test_by : (table : List ℕ) (p : ℕ) (τ : Known) (t : Term) → Has table p (term_words t) → get_or table p 0 < first_name
+test_by : (table : List ℕ) (p : ℕ) (τ : Known) (t : Term) → WordsAt table p (term_words t) → get_or table p 0 < first_name
     → open_unless (get_or τ (get_or table p 0) false) (get_or table (p + 2) 0) ≡ open_byte τ t
 unfolding term_words open_byte
 test_by table p τ (variable n at) h l = ap₂ (λ (k b : ℕ). open_unless (get_or τ k false) b) h.1 (node table p n node_words at [] h).third
 test_by table p τ (compound at f ts) h l = absurd (omega (arith, h.1))
 
-stored-by : (table : List ℕ) (p : ℕ) (τ : Known) (t : Term) → Has table p (term_words t) → get_or table p 0 < first_name → set τ (get_or table p 0) true ≡ ground_term t τ
+stored-by : (table : List ℕ) (p : ℕ) (τ : Known) (t : Term) → WordsAt table p (term_words t) → get_or table p 0 < first_name → set τ (get_or table p 0) true ≡ ground_term t τ
 unfolding term_words ground_term
 stored-by table p τ (variable n at) h l = ap (λ (k : ℕ). set τ k true) h.1
 stored-by table p τ (compound at f ts) h l = absurd (omega (arith, h.1))

@@ -13,17 +13,17 @@ use borrow.Author.Tests.{eqb-true, eqb-false}
 use Rattle.syntax.specs.Terms.{Declaration, Clause}
 use Rattle.syntax.specs.Words.{clause_words, clauses_words}
 use Rattle.mode_rules.specs.Written.{is_written}
-use Rattle.words.specs.Tables.{Has}
-use Rattle.marks.specs.Standing.{ClausesSpelt}
+use Rattle.words.specs.Tables.{WordsAt}
+use Rattle.marks.specs.Spelt.{ClausesSpelt}
 use Rattle.marks.specs.Tables.{ClauseAt, SheetAt}
 use Rattle.marks.proofs.UndeclaredClauses.{Ahead, Turn, turn}
 use Rattle.marks.specs.Repeating.{nth_declaration}
-use Rattle.marks.specs.Flags.{is_place, Finds, Flagged}
+use Rattle.marks.specs.Flags.{is_place, OnlyDeclaration, Flagged}
 
 -- the clauses from the i-th on, and the flags of those before
 pub record Left (s table : List ℕ) (at i clauses : ℕ) (flags : List Bool) (ds : List Declaration) (all : List Clause) : Type 0 where
   pub list : List Clause
-  pub has : Has table at (clauses_words list)
+  pub has : WordsAt table at (clauses_words list)
   pub count : clauses ≡ i + length list
   pub stand : ClausesSpelt s list
   pub same : (k : ℕ) → k < length ds → is_written all (nth_declaration ds k) ≡ (get_or flags k false || is_written list (nth_declaration ds k))
@@ -65,7 +65,7 @@ module _ {s table : List ℕ} {at i clauses : ℕ} {flags : List Bool} {ds : Lis
   abbrev pub here : i < clauses → (a : Left s table at i clauses flags ds all) → Turn s table at i clauses a.list
   here l a = turn l (ahead a)
 
-  pub flagged-on : (l : i < clauses) (a : Left s table at i clauses flags ds all) (r : Place ℕ) → Finds ds (here l a).clause.clause.head r
+  pub flagged-on : (l : i < clauses) (a : Left s table at i clauses flags ds all) (r : Place ℕ) → OnlyDeclaration ds (here l a).clause.clause.head r
       → (after : List Bool) → ((k : ℕ) → k < length ds → get_or after k false ≡ (is_place r k || get_or flags k false))
       → (next : ℕ) → ((w : ClauseAt s table at) → next ≡ at + length (clause_words w.clause))
       → Left s table next (i + 1) clauses after ds all
@@ -73,13 +73,13 @@ module _ {s table : List ℕ} {at i clauses : ℕ} {flags : List Bool} {ds : Lis
       let z : Turn s table at i clauses a.list = here l a in
       record {
         list = z.left;
-        has = subst⁻¹ (λ (k : ℕ). Has table k (clauses_words z.left)) (e z.clause) z.has;
+        has = subst⁻¹ (λ (k : ℕ). WordsAt table k (clauses_words z.left)) (e z.clause) z.has;
         count = z.count;
         stand = z.stand;
         same = λ k low. so_far z f k low;
       }
     where
-      so_far : (z : Turn s table at i clauses a.list) → Finds ds z.clause.clause.head r → (k : ℕ) → k < length ds
+      so_far : (z : Turn s table at i clauses a.list) → OnlyDeclaration ds z.clause.clause.head r → (k : ℕ) → k < length ds
           → is_written all (nth_declaration ds k) ≡ (get_or after k false || is_written z.left (nth_declaration ds k))
       so_far z g k low = unfold is_written in
           a.same k low

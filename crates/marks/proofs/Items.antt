@@ -9,11 +9,11 @@ use Rattle.syntax.specs.Terms.{Literal, Body, call, equation, truth, falsity, ei
 use Rattle.syntax.specs.Words.{body_length, call_kind, left_kind}
 use Rattle.syntax.specs.declared.Refusal.{Refusal}
 use Rattle.mode_rules.specs.Modes.{first_of, undeclared_atom, undeclared_literal, undeclared_body}
-use Rattle.words.specs.Tables.{Has}
+use Rattle.words.specs.Tables.{WordsAt}
 use Rattle.words.specs.Items.{Item, plain_call, plain_equation, plain_truth, plain_falsity, before_left, before_right, behind, item_words, items_words, literal_items, items}
 use Rattle.words.proofs.Items.{View, view_truth, view_falsity, view_call, view_equation, view_left, view_right, view_behind, view, body-many, items-stand, first-stands, rest-stand}
 use Rattle.words.proofs.Items as of
-use Rattle.marks.specs.Standing.{LiteralSpelt, call_stands, either_stands, BodySpelt, also_stands}
+use Rattle.marks.specs.Spelt.{LiteralSpelt, call_stands, either_stands, BodySpelt, also_stands}
 use Rattle.marks.specs.Tables.{AtomAt, BodyAt}
 use Rattle.std.specs.Prelude.{Ok, Err}
 use Rattle.marks.specs.Answers.{Checked, checked_of}
@@ -22,7 +22,7 @@ use Rattle.marks.proofs.Faults.{fault-stays, fine-goes, over}
 
 -- ---- one item
 
-pub item-words : {g table : List ℕ} {p : ℕ} → ItemAt g table p → (x : Item) × Has table p (item_words x)
+pub item-words : {g table : List ℕ} {p : ℕ} → ItemAt g table p → (x : Item) × WordsAt table p (item_words x)
 item-words w = (w.item, w.has)
 
 pub item_room : {g table : List ℕ} {p : ℕ} → ItemAt g table p → p < length table
@@ -38,7 +38,7 @@ module _ (table : List ℕ) (p word : ℕ) (e : word ≡ get_or table p 0) where
   none-by k (view_right q) = refl
   none-by k (view_behind q) = refl
 
-  pub no-literal : left_kind ≤ word → (x : Item) → Has table p (item_words x) → 0 ≡ literals_at x
+  pub no-literal : left_kind ≤ word → (x : Item) → WordsAt table p (item_words x) → 0 ≡ literals_at x
   no-literal k x h = none-by k (view table p x h)
 
   one-by : {x : Item} → word < left_kind → View table p x → 1 ≡ literals_at x
@@ -50,7 +50,7 @@ module _ (table : List ℕ) (p word : ℕ) (e : word ≡ get_or table p 0) where
   one-by k (view_right q) = absurd (omega arith)
   one-by k (view_behind q) = absurd (omega arith)
 
-  pub one_literal : word < left_kind → (x : Item) → Has table p (item_words x) → 1 ≡ literals_at x
+  pub one_literal : word < left_kind → (x : Item) → WordsAt table p (item_words x) → 1 ≡ literals_at x
   one_literal k x h = one-by k (view table p x h)
 
 fine-by : {table : List ℕ} {p word : ℕ} {x : Item} → word ≡ get_or table p 0 → (word ≡ call_kind → ⊥) → View table p x → (ds : List Declaration) (c m : ℕ) → Ok tt ≡ checked_of (undeclared_item ds c m x)
@@ -201,7 +201,7 @@ module _ (g : List ℕ) where
 -- what is left of it, behind i items, at a place before the literal of that number
 pub record Left (ds : List Declaration) (c : ℕ) (g table : List ℕ) (at i many literal : ℕ) (whole : Option Refusal) : Type 0 where
   pub rest : List Item
-  pub has : Has table at (items_words rest)
+  pub has : WordsAt table at (items_words rest)
   pub count : many ≡ i + length rest
   pub stand : ItemsStand g rest
   pub same : whole ≡ undeclared_items ds c literal rest
@@ -220,11 +220,11 @@ pub record First (g table : List ℕ) (at i many : ℕ) (xs : List Item) : Type 
   pub item : ItemAt g table at
   pub others : List Item
   pub is : xs ≡ item.item ∷ others
-  pub has : Has table (at + length (item_words item.item)) (items_words others)
+  pub has : WordsAt table (at + length (item_words item.item)) (items_words others)
   pub count : many ≡ i + 1 + length others
   pub stand : ItemsStand g others
 
-first-by : (g table : List ℕ) (at i many : ℕ) (xs : List Item) → i < many → Has table at (items_words xs) → many ≡ i + length xs → ItemsStand g xs → First g table at i many xs
+first-by : (g table : List ℕ) (at i many : ℕ) (xs : List Item) → i < many → WordsAt table at (items_words xs) → many ≡ i + length xs → ItemsStand g xs → First g table at i many xs
 first-by g table at i many [] l h e k = absurd (omega arith)
 first-by g table at i many (x ∷ xs) l h e k = record {
   item = record { item = x; has = first-stands table at x xs h; stands = k.0 };
@@ -254,13 +254,13 @@ module _ {ds : List Declaration} {c : ℕ} {g table : List ℕ} {at i many liter
           fault-stays (undeclared_item ds c literal first.item.item) (undeclared_items ds c (literals_at first.item.item + literal) first.others) (ef first.item) t
           ∙ sym (ap checked_of whole_is)
 
-      pub left-on : f ≡ Ok tt → {gone next : ℕ} → ((x : Item) → Has table at (item_words x) → gone ≡ literals_at x)
-          → ((x : Item) → Has table at (item_words x) → next ≡ at + length (item_words x)) → Left ds c g table next (i + 1) many (literal + gone) whole
+      pub left-on : f ≡ Ok tt → {gone next : ℕ} → ((x : Item) → WordsAt table at (item_words x) → gone ≡ literals_at x)
+          → ((x : Item) → WordsAt table at (item_words x) → next ≡ at + length (item_words x)) → Left ds c g table next (i + 1) many (literal + gone) whole
       left-on t {gone} {next} m n =
           let k : literals_at first.item.item + literal ≡ literal + gone = omega (arith, m first.item.item first.item.has) in
           record {
             rest = first.others;
-            has = subst⁻¹ (λ (j : ℕ). Has table j (items_words first.others)) (n first.item.item first.item.has) first.has;
+            has = subst⁻¹ (λ (j : ℕ). WordsAt table j (items_words first.others)) (n first.item.item first.item.has) first.has;
             count = omega (arith, first.count);
             stand = first.stand;
             same =
@@ -270,11 +270,11 @@ module _ {ds : List Declaration} {c : ℕ} {g table : List ℕ} {at i many liter
           }
 
       -- the place and the number rise together
-      pub left-rises : {gone next : ℕ} → ((x : Item) → Has table at (item_words x) → gone ≡ literals_at x)
-          → ((x : Item) → Has table at (item_words x) → next ≡ at + length (item_words x)) → literal ≤ at + 1 → literal + gone ≤ next + 1
+      pub left-rises : {gone next : ℕ} → ((x : Item) → WordsAt table at (item_words x) → gone ≡ literals_at x)
+          → ((x : Item) → WordsAt table at (item_words x) → next ≡ at + length (item_words x)) → literal ≤ at + 1 → literal + gone ≤ next + 1
       left-rises m n k =
           let x : Item = first.item.item in
           omega (arith, m x first.item.has, n x first.item.has, literals-few x, item-some x)
 
-    pub left-fits : {gone : ℕ} → ((x : Item) → Has table at (item_words x) → gone ≡ literals_at x) → literal ≤ at + 1 → literal + gone ≤ length table + 1
+    pub left-fits : {gone : ℕ} → ((x : Item) → WordsAt table at (item_words x) → gone ≡ literals_at x) → literal ≤ at + 1 → literal + gone ≤ length table + 1
     left-fits m k = omega (arith, m first.item.item first.item.has, literals-few first.item.item, item_room first.item)

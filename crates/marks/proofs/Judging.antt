@@ -9,13 +9,13 @@ use Rattle.syntax.specs.Terms.{Atom, term_of, Mark}
 use Rattle.syntax.specs.Words.{term_words, mark_number}
 use Rattle.syntax.specs.declared.Refusal.TheVariants.{OpenInput, OpenOutput}
 use Rattle.mode_rules.specs.Modes.{Known, list_of, OpenArgument, first_open, open_input, open_output}
-use Rattle.marks.specs.Standing.{numbered_compound}
+use Rattle.marks.specs.Spelt.{numbered_compound}
 use Rattle.marks.specs.Tables.{TermAt, NamedAt, MarkedAt, JudgedAt}
 use Rattle.marks.specs.Answers.{checked_of, atom_name}
 use Rattle.marks.specs.ArgumentsAnswers.{first_open_of}
 use Rattle.marks.specs.declared.arguments.FirstOpen.{FirstOpen}
 use Rattle.std.specs.Prelude.{Option as Perhaps, Some, None, Ok, Err}
-use Rattle.marks.specs.declared.declarations.Name.{Name}
+use Rattle.syntax.specs.declared.Entry.{Entry}
 use Rattle.marks.proofs.Places.{Says, says, sized}
 
 -- ---- the first open argument
@@ -86,15 +86,15 @@ module _ {table : List ℕ} {p marks : ℕ} (τ : Known) (m : Mark) (r : Perhaps
       → Ok tt ≡ checked_of (open_output c w.atom (first_open m τ w.listed (list_of w.atom.args) 1))
   head-fine e c w = head-none c w.atom (first_open m τ w.listed (list_of w.atom.args) 1) (sym (er w) ∙ e)
 
-  module _ (f : FirstOpen) (e : r ≡ Some f) (name : Name) (en : (w : NamedAt table p) → name ≡ atom_name w.atom) where
+  module _ (f : FirstOpen) (e : r ≡ Some f) (name : Entry) (en : (w : NamedAt table p) → name ≡ atom_name w.atom) where
     is_open : (w : JudgedAt table p marks) → first_open m τ w.listed (list_of w.atom.args) 1 ≡ some (record { argument = f.argument; byte = f.byte })
     is_open w = some-open (first_open m τ w.listed (list_of w.atom.args) 1) f (sym (er w) ∙ e)
 
     at_is : (w : JudgedAt table p marks) → name.at ≡ w.atom.at
-    at_is w = ap (λ (x : Name). x.at) (en (judged-name w))
+    at_is w = ap (λ (x : Entry). x.at) (en (judged-name w))
 
     len_is : (w : JudgedAt table p marks) → name.len ≡ length w.atom.name
-    len_is w = ap (λ (x : Name). x.len) (en (judged-name w))
+    len_is w = ap (λ (x : Entry). x.len) (en (judged-name w))
 
     pub call-faulty : (c l : ℕ) (w : JudgedAt table p marks)
         → Err (OpenInput f.byte c l f.argument name.at name.len) ≡ checked_of (open_input c l w.atom (first_open m τ w.listed (list_of w.atom.args) 1))

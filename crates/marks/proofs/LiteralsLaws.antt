@@ -9,12 +9,12 @@ use Rattle.syntax.specs.Terms.{Term, Atom, term_of, Literal, Body, call, equatio
 use Rattle.syntax.specs.Words.{term_words, atom_words, literal_words, literal_length, body_length, marker, marks_number, truth_kind, falsity_kind, call_kind, equation_kind, left_kind}
 use Rattle.syntax.specs.declared.Refusal.{Refusal}
 use Rattle.mode_rules.specs.Modes.{Known, everything, marks_for, list_of, first_open, ground_marked, settle, open_input, Walk, faulted, known, unless_fault, call_walk, literal_walk}
-use Rattle.marks.specs.Standing.{TermSpelt, LiteralSpelt, call_stands, equation_stands, either_stands, BodySpelt}
-use Rattle.words.specs.Tables.{Has}
+use Rattle.marks.specs.Spelt.{TermSpelt, LiteralSpelt, call_stands, equation_stands, either_stands, BodySpelt}
+use Rattle.words.specs.Tables.{WordsAt}
 use Rattle.marks.specs.Tables.{TermAt, PairAt, MarkedAt, JudgedAt, DeclarationsAt, AtomAt, LiteralAt}
 use Rattle.std.specs.Prelude.{Result, Ok, Err}
 use Rattle.marks.specs.Answers.{Checked, checked_of}
-use Rattle.marks.specs.LiteralsAnswers.{Passes, PastLiteral}
+use Rattle.marks.specs.LiteralsAnswers.{WalkPassed, PastLiteral}
 use Rattle.marks.specs.declared.literals.Passed.{Passed}
 use Rattle.words.proofs.TablesLaws.{has_left, has_right}
 use Rattle.marks.proofs.Places.{numbered, all-numbered}
@@ -24,7 +24,7 @@ use Rattle.marks.proofs.Judging.{judged-marked}
 -- ---- answers
 
 -- a walk that meets no fault, and one that does
-pub passes-ok : (x : Passed) {w : Walk} {next items literal : ℕ} → known x.known ≡ w → x.next ≡ next → x.items ≡ items → x.literal ≡ literal → Passes (Ok x) w next items literal
+pub passes-ok : (x : Passed) {w : Walk} {next items literal : ℕ} → known x.known ≡ w → x.next ≡ next → x.items ≡ items → x.literal ≡ literal → WalkPassed (Ok x) w next items literal
 passes-ok x e n i l = record {
   walk = e;
   next_is = λ y q. let z : x ≡ y = same q in ap (λ (u : Passed). u.next) (sym z) ∙ n;
@@ -35,7 +35,7 @@ passes-ok x e n i l = record {
     same : {y : Passed} → ◌≡◌ {A = Result Passed Refusal} (Ok x) (Ok y) → x ≡ y
     same q = cc
 
-pub passes-err : (r : Refusal) {w : Walk} (next items literal : ℕ) → faulted r ≡ w → Passes (Err r) w next items literal
+pub passes-err : (r : Refusal) {w : Walk} (next items literal : ℕ) → faulted r ≡ w → WalkPassed (Err r) w next items literal
 passes-err r next items literal e = record {
   walk = e;
   next_is = λ x q. no q;
@@ -63,13 +63,13 @@ call-passes (some q) e t es = let z : ◌≡◌ {A = Checked} (Ok tt) (Err q) = 
 pub data View (g table : List ℕ) (p : ℕ) : Literal → Type 0 where
   view_truth : get_or table p 0 ≡ truth_kind → View g table p truth
   view_falsity : get_or table p 0 ≡ falsity_kind → View g table p falsity
-  view_call : {a : Atom} → get_or table p 0 ≡ call_kind → Has table (p + 1) (atom_words a) → TermSpelt g (term_of a) → View g table p (call a)
-  view_equation : {t u : Term} → get_or table p 0 ≡ equation_kind → Has table (p + 1) (term_words t) → Has table (p + 1 + length (term_words t)) (term_words u) → TermSpelt g t → TermSpelt g u
+  view_call : {a : Atom} → get_or table p 0 ≡ call_kind → WordsAt table (p + 1) (atom_words a) → TermSpelt g (term_of a) → View g table p (call a)
+  view_equation : {t u : Term} → get_or table p 0 ≡ equation_kind → WordsAt table (p + 1) (term_words t) → WordsAt table (p + 1 + length (term_words t)) (term_words u) → TermSpelt g t → TermSpelt g u
       → View g table p (equation t u)
-  view_either : {y z : Body} → get_or table p 0 ≡ marker left_kind (body_length y) → Has table p (literal_words (either y z)) → BodySpelt g y → BodySpelt g z
+  view_either : {y z : Body} → get_or table p 0 ≡ marker left_kind (body_length y) → WordsAt table p (literal_words (either y z)) → BodySpelt g y → BodySpelt g z
       → View g table p (either y z)
 
-view-by : (g table : List ℕ) (p : ℕ) (l : Literal) → Has table p (literal_words l) → LiteralSpelt g l → View g table p l
+view-by : (g table : List ℕ) (p : ℕ) (l : Literal) → WordsAt table p (literal_words l) → LiteralSpelt g l → View g table p l
 unfolding literal_words
 view-by g table p truth h k = view_truth h.1
 view-by g table p falsity h k = view_falsity h.1
@@ -81,7 +81,7 @@ view-by g table p (either y z) h (either_stands ky kz) = view_either h.1 h ky kz
 pub view : {g table : List ℕ} {p : ℕ} (w : LiteralAt g table p) → View g table p w.literal
 view {g} {table} {p} w = view-by g table p w.literal w.has w.stands
 
-room_of : (table : List ℕ) (p : ℕ) (x : Literal) → Has table p (literal_words x) → p < length table
+room_of : (table : List ℕ) (p : ℕ) (x : Literal) → WordsAt table p (literal_words x) → p < length table
 unfolding literal_words
 room_of table p truth h = h.0
 room_of table p falsity h = h.0
@@ -175,7 +175,7 @@ module _ {g table : List ℕ} {p : ℕ} (kind : ℕ) (e : kind ≡ get_or table 
         plain_passes most ds c m τ everything w (sym (ap (literal_walk ds c m τ) (falsity-is k w))) (omega arith)
 
     pub walked_call : kind ≡ call_kind → (r : Result Passed Refusal)
-        → ((a : AtomAt g table (p + 1)) → Passes r (call_walk ds c m τ a.atom) (p + 1 + length (atom_words a.atom)) 1 (m + 1))
+        → ((a : AtomAt g table (p + 1)) → WalkPassed r (call_walk ds c m τ a.atom) (p + 1 + length (atom_words a.atom)) 1 (m + 1))
         → (w : LiteralAt g table p) → PastLiteral r ds c m τ p w.literal
     unfolding literal_walk literal_words
     walked_call k r h w =
@@ -223,7 +223,7 @@ module _ {g table : List ℕ} {p : ℕ} (kind : ℕ) (e : kind ≡ get_or table 
         abbrev pub right-term : LiteralAt g table p → TermAt table next
         right-term w = record {
           term = (equation-at w).pair.right;
-          has = subst⁻¹ (λ (j : ℕ). Has table j (term_words (equation-at w).pair.right)) (n (equation-at w).left) (equation-at w).pair.has_right;
+          has = subst⁻¹ (λ (j : ℕ). WordsAt table j (term_words (equation-at w).pair.right)) (n (equation-at w).left) (equation-at w).pair.has_right;
           numbered = numbered (equation-at w).pair.right_stands;
         }
 
@@ -260,14 +260,14 @@ module _ (s declared : List ℕ) (n : ℕ) (g table : List ℕ) (p marks : ℕ)
   module _ (τ : Known) (c l : ℕ) {f : Checked}
       (ef : (u : JudgedAt table p marks) → f ≡ checked_of (open_input c l u.atom (first_open input τ u.listed (list_of u.atom.args) 1))) where
     pub walked-fault : {r : Refusal} → f ≡ Err r → (d : DeclarationsAt s declared n) (w : AtomAt g table p)
-        → Passes (Err r) (call_walk d.list c l τ w.atom) (p + length (atom_words w.atom)) 1 (l + 1)
+        → WalkPassed (Err r) (call_walk d.list c l τ w.atom) (p + length (atom_words w.atom)) 1 (l + 1)
     unfolding call_walk
     walked-fault {r} e d w = passes-err r _ _ _ (call-faulted _ (ground_marked output (marks_for d.list w.atom) (list_of w.atom.args) τ) (ef (judged-at d w)) e)
 
     pub walked-past : f ≡ Ok tt → (stop : ℕ) → ((u : TermAt table p) → stop ≡ p + length (term_words u.term)) → (after : Known)
         → ((u : MarkedAt table (p + 3) stop marks 2) → after ≡ ground_marked u.wanted u.listed (list_of u.terms) τ)
         → (d : DeclarationsAt s declared n) (w : AtomAt g table p)
-        → Passes (Ok (record { known = after; next = stop; items = 1; literal = l + 1 })) (call_walk d.list c l τ w.atom) (p + length (atom_words w.atom)) 1 (l + 1)
+        → WalkPassed (Ok (record { known = after; next = stop; items = 1; literal = l + 1 })) (call_walk d.list c l τ w.atom) (p + length (atom_words w.atom)) 1 (l + 1)
     unfolding call_walk
     walked-past e stop es after h d w =
         passes-ok _ (call-passes _ (ef (judged-at d w)) e (h (judged-marked table p marks stop es output (judged-at d w))))

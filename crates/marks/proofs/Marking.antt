@@ -14,11 +14,11 @@ use Rattle.syntax.specs.Tokens.{spelling}
 use Rattle.syntax.specs.Words.{declaration_words, declarations_words, marks_number, first_name, functor_arity, functor_length, declaration_size}
 use Rattle.syntax.specs.declared.Refusal.TheVariants.{Undeclared}
 use Rattle.mode_rules.specs.Modes.{marks_of, or_no_marks, marks_for, undeclared, undeclared_atom}
-use Rattle.marks.specs.Standing.{NameAt, TermSpelt, TermsSpelt, stands_compound, DeclarationsSpelt, declaration_stands}
-use Rattle.words.specs.Tables.{Has}
+use Rattle.marks.specs.Spelt.{NameAt, TermSpelt, TermsSpelt, stands_compound, DeclarationsSpelt, declaration_stands}
+use Rattle.words.specs.Tables.{WordsAt}
 use Rattle.marks.specs.Tables.{DeclarationAt, DeclarationsAt, AtomAt, NamedAt}
 use Rattle.marks.specs.Answers.{checked_of, atom_name, position}
-use Rattle.marks.specs.declared.declarations.Name.{Name}
+use Rattle.syntax.specs.declared.Entry.{Entry}
 use Rattle.words.proofs.TablesLaws.{Node, node, has_left, has_right, has-inside}
 use Rattle.marks.proofs.Places.{Says, says as atom-words}
 use Rattle.marks.specs.declared.lookup.Lookup.{Lookup}
@@ -91,7 +91,7 @@ searched-by s declared p k d ds name n false e m on =
     ∙ sym (ap (behind k) (position-by false d ds name n e))
 
 -- the search over the words of declarations comes to the first one of the predicate
-searched : (s declared : List ℕ) (p k : ℕ) (ds : List Declaration) (name : List ℕ) (n : ℕ) → Has declared p (declarations_words ds) → DeclarationsSpelt s ds
+searched : (s declared : List ℕ) (p k : ℕ) (ds : List Declaration) (name : List ℕ) (n : ℕ) → WordsAt declared p (declarations_words ds) → DeclarationsSpelt s ds
     → place_of (look_from s name n k (stored_entries declared p (length ds))) ≡ behind k (position ds name n)
 unfolding look_from stored_entries declarations_words declaration_words
 searched s declared p k [] name n h st = sym (ap (behind k) (position-none name n))
@@ -105,7 +105,7 @@ unfolding declarations_words declaration_words
 declared-words [] = refl
 declared-words (d ∷ ds) = let e : length (declarations_words ds) ≡ length ds * declaration_size = declared-words ds in omega (arith, length-append (declaration_words d) (declarations_words ds))
 
-room_by : (declared : List ℕ) (n : ℕ) (ds : List Declaration) → n ≡ length ds → Has declared 0 (declarations_words ds) → n * declaration_size ≤ length declared
+room_by : (declared : List ℕ) (n : ℕ) (ds : List Declaration) → n ≡ length ds → WordsAt declared 0 (declarations_words ds) → n * declaration_size ≤ length declared
 room_by declared n [] e h = omega arith
 room_by declared n (d ∷ ds) e h =
     let l : length (declarations_words (d ∷ ds)) ≡ length (d ∷ ds) * declaration_size = declared-words (d ∷ ds) in
@@ -156,12 +156,12 @@ in-text {g} w = in-by g w.atom w.stands
 abbrev pub atom-name : {g table : List ℕ} {p : ℕ} → AtomAt g table p → NamedAt table p
 atom-name w = record { atom = w.atom; has = w.has; short = (in-text w).name-at.short }
 
-module _ (g table : List ℕ) (p : ℕ) (name : Name) (en : (w : NamedAt table p) → name ≡ atom_name w.atom) where
+module _ (g table : List ℕ) (p : ℕ) (name : Entry) (en : (w : NamedAt table p) → name ≡ atom_name w.atom) where
   at_is : (w : AtomAt g table p) → name.at ≡ w.atom.at
-  at_is w = ap (λ (x : Name). x.at) (en (atom-name w))
+  at_is w = ap (λ (x : Entry). x.at) (en (atom-name w))
 
   len_is : (w : AtomAt g table p) → name.len ≡ length w.atom.name
-  len_is w = ap (λ (x : Name). x.len) (en (atom-name w))
+  len_is w = ap (λ (x : Entry). x.len) (en (atom-name w))
 
   pub atom-inside : AtomAt g table p → name.at + name.len ≤ length g
   atom-inside w = omega (arith, at_is w, len_is w, (in-text w).name-at.inside)
@@ -169,12 +169,19 @@ module _ (g table : List ℕ) (p : ℕ) (name : Name) (en : (w : NamedAt table p
   pub atom-position : (ds : List Declaration) (w : AtomAt g table p)
       → position ds (spelling g name.at name.len) name.arguments ≡ position ds w.atom.name (arity w.atom.args)
   atom-position ds w =
-      ap₂ (position ds) (ap₂ (λ (a l : ℕ). spelling g a l) (at_is w) (len_is w) ∙ sym (in-text w).name-at.spelt) (ap (λ (x : Name). x.arguments) (en (atom-name w)))
+      ap₂ (position ds) (ap₂ (λ (a l : ℕ). spelling g a l) (at_is w) (len_is w) ∙ sym (in-text w).name-at.spelt) (ap (λ (x : Entry). x.arguments) (en (atom-name w)))
 
   pub atom-found : (s declared : List ℕ) (n : ℕ) (bytes : List ℕ) → bytes ≡ spelling g name.at name.len
       → (r : Place ℕ) → ((d : DeclarationsAt s declared n) → r ≡ position d.list bytes name.arguments)
       → (d : DeclarationsAt s declared n) (w : AtomAt g table p) → r ≡ position d.list w.atom.name (arity w.atom.args)
   atom-found s declared n bytes eb r h d w = h d ∙ ap (λ (x : List ℕ). position d.list x name.arguments) eb ∙ atom-position d.list w
+
+  -- so it is declared, if that is so by the bytes
+  pub atom-known : (s declared : List ℕ) (n : ℕ) (bytes : List ℕ) → bytes ≡ spelling g name.at name.len
+      → ((d : DeclarationsAt s declared n) → is_some (position d.list bytes name.arguments) ≡ true)
+      → (d : DeclarationsAt s declared n) (w : AtomAt g table p) → is_some (position d.list w.atom.name (arity w.atom.args)) ≡ true
+  atom-known s declared n bytes eb h d w =
+      ap (λ (o : Place ℕ). is_some o) (sym (ap (λ (x : List ℕ). position d.list x name.arguments) eb ∙ atom-position d.list w)) ∙ h d
 
   -- the fault of an atom without declaration
   pub undeclared-is : (ds : List Declaration) (c l : ℕ) (w : AtomAt g table p) → marks_of ds w.atom ≡ none
@@ -203,7 +210,7 @@ later-by true d ds name n e l = ap (λ (o : Place ℕ). is_some o) (position-by 
 later-by false d ds name n e l = ap (λ (o : Place ℕ). is_some o) (position-by false d ds name n e) ∙ counted (position ds name n) ∙ l
 
 near_by : (s declared : List ℕ) (p : ℕ) (ds : List Declaration) (i : ℕ) (name : List ℕ) (arguments : ℕ) → i < length ds
-    → Has declared p (declarations_words ds) → DeclarationsSpelt s ds → Near s declared (p + i * declaration_size) ds name arguments
+    → WordsAt declared p (declarations_words ds) → DeclarationsSpelt s ds → Near s declared (p + i * declaration_size) ds name arguments
 unfolding declarations_words declaration_words
 near_by s declared p [] i name arguments l h k = absurd (omega arith)
 near_by s declared p (d ∷ ds) zero name arguments l h (declaration_stands k ks) =
@@ -229,15 +236,11 @@ module _ (s declared : List ℕ) (n near : ℕ) (l : near < n) where
   pub near-at : DeclarationsAt s declared n → DeclarationAt s declared (near * declaration_size)
   near-at d = (near_of [] 0 d).it
 
-  pub near-declares : (g table : List ℕ) (p : ℕ) (name : Name) → ((w : NamedAt table p) → name ≡ atom_name w.atom) → (q : ℕ) → q ≡ near * declaration_size
-      → (bytes : List ℕ) → bytes ≡ spelling g name.at name.len → (b : Bool) → b ≡ matches s bytes name.arguments (stored_entry declared q)
-      → b ≡ true → (d : DeclarationsAt s declared n) (w : AtomAt g table p) → is_some (position d.list w.atom.name (arity w.atom.args)) ≡ true
-  near-declares g table p name en q eq bytes ey b eb t d w =
-      let o : Near s declared q d.list (spelling g name.at name.len) name.arguments =
-      subst⁻¹ (λ (j : ℕ). Near s declared j d.list (spelling g name.at name.len) name.arguments) eq (near_of (spelling g name.at name.len) name.arguments d) in
-      ap (λ (x : Place ℕ). is_some x) (sym (atom-position g table p name en d.list w))
-      ∙ o.found (sym (matches-declared s declared q (spelling g name.at name.len) name.arguments o.it)
-      ∙ sym (eb ∙ ap (λ (x : List ℕ). matches s x name.arguments (stored_entry declared q)) ey) ∙ t)
+  pub near-known : (q : ℕ) → q ≡ near * declaration_size → (bytes : List ℕ) (arguments : ℕ) (b : Bool) → b ≡ matches s bytes arguments (stored_entry declared q)
+      → b ≡ true → (d : DeclarationsAt s declared n) → is_some (position d.list bytes arguments) ≡ true
+  near-known q eq bytes arguments b eb t d =
+      let o : Near s declared q d.list bytes arguments = subst⁻¹ (λ (j : ℕ). Near s declared j d.list bytes arguments) eq (near_of bytes arguments d) in
+      o.found (sym (matches-declared s declared q bytes arguments o.it) ∙ sym eb ∙ t)
 
 -- ---- the marks of a predicate
 
@@ -253,9 +256,9 @@ marks-by : (b : Bool) (d : Declaration) (ds : List Declaration) (a : Atom) → s
 unfolding marks_of
 marks-by b d ds a e = ap (λ (t : Bool). elim t as (λ _. Option (List Mark)) [ true ↦ some d.marks | false ↦ marks_of ds a ]) e
 
-four : (declared : List ℕ) (p a b c m : ℕ) → Has declared p (a ∷ b ∷ c ∷ m ∷ []) → (p + 3 < length declared) × (get_or declared (p + 3) 0 ≡ m)
+four : (declared : List ℕ) (p a b c m : ℕ) → WordsAt declared p (a ∷ b ∷ c ∷ m ∷ []) → (p + 3 < length declared) × (get_or declared (p + 3) 0 ≡ m)
 four declared p a b c m h =
-    let r : Has declared (p + 3) (m ∷ []) = (node declared p a b c (m ∷ []) h).rest in
+    let r : WordsAt declared (p + 3) (m ∷ []) = (node declared p a b c (m ∷ []) h).rest in
     (r.0, r.1)
 
 -- what a place behind the first one says of the others
@@ -264,9 +267,9 @@ earlier None i e = apart e
 earlier (Some j) i e = let z : i ≡ suc j = cc in (j, (refl, z))
 
 found-by : (declared : List ℕ) (p : ℕ) (d : Declaration) (ds : List Declaration) (a : Atom) (i : ℕ) (b : Bool)
-    → same_predicate d.name (length d.marks) a.name (arity a.args) ≡ b → Has declared p (declarations_words (d ∷ ds))
+    → same_predicate d.name (length d.marks) a.name (arity a.args) ≡ b → WordsAt declared p (declarations_words (d ∷ ds))
     → position (d ∷ ds) a.name (arity a.args) ≡ Some i
-    → ((j : ℕ) → Has declared (p + declaration_size) (declarations_words ds) → position ds a.name (arity a.args) ≡ Some j → MarksFound declared (p + declaration_size) ds a j)
+    → ((j : ℕ) → WordsAt declared (p + declaration_size) (declarations_words ds) → position ds a.name (arity a.args) ≡ Some j → MarksFound declared (p + declaration_size) ds a j)
     → MarksFound declared p (d ∷ ds) a i
 unfolding declarations_words declaration_words
 found-by declared p d ds a i true e h l more =
@@ -292,7 +295,7 @@ found-by declared p d ds a i false e h l more =
       word = subst (λ (j : ℕ). get_or declared j 0 ≡ marks_number q.marks) k q.word;
     }
 
-found_at : (declared : List ℕ) (p : ℕ) (ds : List Declaration) (a : Atom) (i : ℕ) → Has declared p (declarations_words ds)
+found_at : (declared : List ℕ) (p : ℕ) (ds : List Declaration) (a : Atom) (i : ℕ) → WordsAt declared p (declarations_words ds)
     → position ds a.name (arity a.args) ≡ Some i → MarksFound declared p ds a i
 found_at declared p [] a i h l = apart (sym (position-none a.name (arity a.args)) ∙ l)
 found_at declared p (d ∷ ds) a i h l = found-by declared p d ds a i _ refl h l (λ j h1 l1. found_at declared (p + declaration_size) ds a j h1 l1)

@@ -13,7 +13,7 @@ use Rattle.syntax.specs.Terms.{arity, Atom, Declaration, same_bytes, same_predic
 use Rattle.syntax.specs.Reading.{declares, repeats, first_repeat}
 use Rattle.marks.specs.Answers.{position}
 use Rattle.marks.specs.Repeating.{nth_declaration}
-use Rattle.marks.specs.Flags.{Finds}
+use Rattle.marks.specs.Flags.{OnlyDeclaration}
 
 -- ---- predicates
 
@@ -150,13 +150,13 @@ position-misses (d ∷ ds) name n h i l = by (of d name n) refl h (position-miss
     by false e m more (suc i) l = more (nowhere (position ds name n) m) i (omega arith)
 
 module _ (ds : List Declaration) (once : first_repeat [] ds ≡ none) (a : Atom) where
-  pub near-finds : (r : ℕ) → r < length ds → of (nth_declaration ds r) a.name (arity a.args) ≡ true → Finds ds a (Some r)
+  pub near-finds : (r : ℕ) → r < length ds → of (nth_declaration ds r) a.name (arity a.args) ≡ true → OnlyDeclaration ds a (Some r)
   near-finds r h q = record {
     low = λ k e. (let z : k ≡ r = cc in omega arith);
     only = one_found ds once a.name (arity a.args) r h q;
   }
 
-  pub search-finds : (r : Place ℕ) → r ≡ position ds a.name (arity a.args) → Finds ds a r
+  pub search-finds : (r : Place ℕ) → r ≡ position ds a.name (arity a.args) → OnlyDeclaration ds a r
   search-finds None e = record {
     low = λ k q. (let y : ◌≡◌ {A = ℕ} 0 1 = cc in absurd (omega arith));
     only = position-misses ds a.name (arity a.args) (sym e);

@@ -14,7 +14,7 @@ use Rattle.mode_rules.proofs.Terms.{both, grounding-keeps, all-grounding-keeps, 
 use Rattle.mode_rules.proofs.Equations.{left-ground}
 use Rattle.mode_rules.proofs.Growth.{term-grown, equate-grown}
 use Rattle.mode_rules.proofs.Passes.{count_known, count_most, Pass, adds, still, pass, settle-last, settle-on}
-use Rattle.marks.specs.Standing.{Numbered, AllNumbered, numbered_variable, numbered_compound, numbered_cons}
+use Rattle.marks.specs.Spelt.{Numbered, AllNumbered, numbered_variable, numbered_compound, numbered_cons}
 use Rattle.marks.specs.Tables.{TermAt, PairAt}
 use Rattle.marks.proofs.Places.{numbered}
 use Rattle.marks.proofs.Equating.{left_at, right-at, open-left, open-right}

@@ -7,8 +7,8 @@ use lib.ListN.{length, get_or, length-append}
 use Rattle.syntax.specs.Limits.{variables}
 use Rattle.syntax.specs.Terms.{Term, Terms, variable, compound, nil, cons, arity, Atom}
 use Rattle.syntax.specs.Words.{term_words, terms_words, atom_words, first_name, functor}
-use Rattle.marks.specs.Standing.{Numbered, AllNumbered, numbered_variable, numbered_compound, numbered_nil, numbered_cons, TermSpelt, TermsSpelt, stands_variable, stands_compound, stand_nil, stand_cons}
-use Rattle.words.specs.Tables.{Has, NodeInTable}
+use Rattle.marks.specs.Spelt.{Numbered, AllNumbered, numbered_variable, numbered_compound, numbered_nil, numbered_cons, TermSpelt, TermsSpelt, stands_variable, stands_compound, stand_nil, stand_cons}
+use Rattle.words.specs.Tables.{WordsAt, NodeInTable}
 use Rattle.words.proofs.TablesLaws.{has_left, has_right, has-inside, Node, node, long-term, size_is, term_inside}
 use Rattle.marks.specs.Tables.{TermAt, TermsAt}
 
@@ -43,7 +43,7 @@ pub past-ends : {table : List ℕ} {p stop : ℕ} → stop ≡ p + get_or table 
 past-ends {table} {p} {stop} e w = omega (arith, (sized table p w).is)
 
 -- a node's first word below the first name's is a variable's number
-below : (table : List ℕ) (p : ℕ) (t : Term) → Has table p (term_words t) → Numbered t → get_or table p 0 < first_name → get_or table p 0 < variables
+below : (table : List ℕ) (p : ℕ) (t : Term) → WordsAt table p (term_words t) → Numbered t → get_or table p 0 < first_name → get_or table p 0 < variables
 unfolding term_words
 below table p (variable n at) h (numbered_variable k) l = omega (arith, h.1)
 below table p (compound at f ts) h k l = absurd (omega (arith, h.1))
@@ -58,7 +58,7 @@ pub record Opened (table : List ℕ) (p stop : ℕ) (t : Term) : Type 0 where
   pub inner : TermsAt table (p + 3) stop
   pub is : t ≡ compound at name inner.terms
 
-opened-by : (table : List ℕ) (p stop : ℕ) (t : Term) → Has table p (term_words t) → Numbered t → first_name ≤ get_or table p 0
+opened-by : (table : List ℕ) (p stop : ℕ) (t : Term) → WordsAt table p (term_words t) → Numbered t → first_name ≤ get_or table p 0
     → stop ≡ p + length (term_words t) → Opened table p stop t
 unfolding term_words
 opened-by table p stop (variable n at) h (numbered_variable k) l e = absurd (omega (arith, h.1))
@@ -78,10 +78,10 @@ pub record Says (table : List ℕ) (p : ℕ) (a : Atom) : Type 0 where
   pub inside : p + 2 < length table
   pub what : get_or table p 0 ≡ functor (arity a.args) (length a.name)
   pub place : get_or table (p + 2) 0 ≡ a.at
-  pub has : Has table (p + 3) (terms_words a.args)
+  pub has : WordsAt table (p + 3) (terms_words a.args)
   pub size : length (atom_words a) ≡ 3 + length (terms_words a.args)
 
-pub says : (table : List ℕ) (p : ℕ) (a : Atom) → Has table p (atom_words a) → Says table p a
+pub says : (table : List ℕ) (p : ℕ) (a : Atom) → WordsAt table p (atom_words a) → Says table p a
 unfolding term_words
 says table p a h =
     let o : Node table p (functor (arity a.args) (length a.name)) (3 + length (terms_words a.args)) a.at (terms_words a.args) = node table p _ _ _ _ h in
@@ -106,7 +106,7 @@ pub record Parted (table : List ℕ) (p stop : ℕ) (ts : Terms) : Type 0 where
   pub rest : TermsAt table (p + length (term_words first.term)) stop
   pub is : ts ≡ cons first.term rest.terms
 
-parted-by : (table : List ℕ) (p stop : ℕ) (ts : Terms) → p < stop → Has table p (terms_words ts) → stop ≡ p + length (terms_words ts)
+parted-by : (table : List ℕ) (p stop : ℕ) (ts : Terms) → p < stop → WordsAt table p (terms_words ts) → stop ≡ p + length (terms_words ts)
     → AllNumbered ts → Parted table p stop ts
 unfolding term_words
 parted-by table p stop nil l h e k = absurd (omega arith)

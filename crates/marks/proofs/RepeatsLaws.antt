@@ -15,8 +15,8 @@ use Rattle.syntax.specs.Tokens.{spelling}
 use Rattle.syntax.specs.Terms.{Declaration, same_name, same_predicate, true_name, fail_name}
 use Rattle.syntax.specs.Reading.{declares, repeats, first_repeat}
 use Rattle.syntax.specs.Words.{declaration_words, declarations_words}
-use Rattle.marks.specs.Standing.{DeclarationSpelt, DeclarationsSpelt, no_declarations, declaration_stands}
-use Rattle.words.specs.Tables.{Has}
+use Rattle.marks.specs.Spelt.{DeclarationSpelt, DeclarationsSpelt, no_declarations, declaration_stands}
+use Rattle.words.specs.Tables.{WordsAt}
 use Rattle.marks.specs.Tables.{DeclarationsAt}
 use Rattle.marks.specs.Answers.{position}
 use Rattle.words.proofs.TablesLaws.{has_left, has_right}
@@ -82,16 +82,16 @@ module _ (s declared : List ℕ) (n : ℕ) (w : DeclarationsAt s declared n) (i 
   earlier-long : length earlier ≡ i
   earlier-long = let c : i < length w.list = i-in in simp length-take (omega arith)
 
-  words : Has declared 0 (declarations_words earlier ++ declarations_words (one ∷ drop (suc i) w.list))
-  words = subst (Has declared 0) (ap declarations_words whole ∙ words_append earlier (one ∷ drop (suc i) w.list)) w.has
+  words : WordsAt declared 0 (declarations_words earlier ++ declarations_words (one ∷ drop (suc i) w.list))
+  words = subst (WordsAt declared 0) (ap declarations_words whole ∙ words_append earlier (one ∷ drop (suc i) w.list)) w.has
 
   -- the four words of the declaration at the place
-  pub one_has : Has declared (4 * i) (declaration_words one)
+  pub one_has : WordsAt declared (4 * i) (declaration_words one)
   unfolding declarations_words
   one_has =
       let p : 0 + length (declarations_words earlier) ≡ 4 * i = (let f : length (declarations_words earlier) ≡ 4 * length earlier = words-four earlier in let e : length earlier ≡ i = earlier-long in omega arith) in
       has_left declared (4 * i) (declaration_words one) (declarations_words (drop (suc i) w.list))
-      (subst (λ (k : ℕ). Has declared k (declaration_words one ++ declarations_words (drop (suc i) w.list))) p (has_right declared 0 (declarations_words earlier) (declaration_words one ++ declarations_words (drop (suc i) w.list)) words))
+      (subst (λ (k : ℕ). WordsAt declared k (declaration_words one ++ declarations_words (drop (suc i) w.list))) p (has_right declared 0 (declarations_words earlier) (declaration_words one ++ declarations_words (drop (suc i) w.list)) words))
 
   pub one-stands : DeclarationSpelt s one
   one-stands = stand-first (stand-right earlier (one ∷ drop (suc i) w.list) (subst (DeclarationsSpelt s) whole w.stand))

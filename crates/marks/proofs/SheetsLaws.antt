@@ -18,15 +18,16 @@ use Rattle.mode_rules.specs.Modes.{undeclared_clauses, undeclared_in_sheet, clau
 use Rattle.mode_rules.specs.Written.{is_written, is_exempt, first_unwritten, unwritten}
 use Rattle.marks.specs.Searching.{matches, stored_entry}
 use Rattle.std.specs.Prelude.{Some, Ok, Err}
-use Rattle.marks.specs.Answers.{Checked, checked_of, atom_name, name_in}
+use Rattle.marks.specs.Answers.{Checked, checked_of, atom_name}
+use Rattle.words.specs.Tables.{entry_from}
 use Rattle.marks.specs.Tables.{DeclarationsAt, AtomAt, NamedAt, ClausesAt}
-use Rattle.marks.specs.declared.declarations.Name.{Name}
+use Rattle.syntax.specs.declared.Entry.{Entry}
 use Rattle.marks.proofs.Marking.{matches-declared, atom-name, in-text}
 use Rattle.marks.proofs.ClausesSheets.{sheet-declarations, sheet-clauses}
 use Rattle.marks.proofs.Faults.{fault-stays, fine-goes}
 use Rattle.marks.specs.Repeating.{nth_declaration}
 use Rattle.marks.proofs.RepeatsLaws.{one_has, one-stands, at_is, name-inside, name-is, arity-is}
-use Rattle.marks.specs.Flags.{DeclaredOnce, Finds, Flagged}
+use Rattle.marks.specs.Flags.{DeclaredOnce, OnlyDeclaration, Flagged}
 use Rattle.marks.proofs.Once.{of, near-finds}
 
 -- ---- the declaration of a head
@@ -41,30 +42,30 @@ pub declares-it : (s declared : List ℕ) (n i : ℕ) (h : i < n) (name : List �
     → r ≡ true → (d : DeclarationsAt s declared n) → (i < n) × (of (nth_declaration d.list i) name m ≡ true)
 declares-it s declared n i h name m r e t d = (h, sym (matches-one s declared n d i h name m) ∙ sym e ∙ t)
 
-module _ (s table : List ℕ) (p : ℕ) (name : Name) (en : (v : NamedAt table p) → name ≡ atom_name v.atom) where
-  of-atom : (w : AtomAt s table p) (d : Declaration) → of d (spelling s name.at name.len) name.arguments ≡ of d w.atom.name (arity w.atom.args)
+module _ (g table : List ℕ) (p : ℕ) (name : Entry) (en : (v : NamedAt table p) → name ≡ atom_name v.atom) where
+  of-atom : (w : AtomAt g table p) (d : Declaration) → of d (spelling g name.at name.len) name.arguments ≡ of d w.atom.name (arity w.atom.args)
   of-atom w d =
-      ap (λ (x : Name). of d (spelling s x.at x.len) x.arguments) (en (atom-name w))
+      ap (λ (x : Entry). of d (spelling g x.at x.len) x.arguments) (en (atom-name w))
       ∙ ap (λ (x : List ℕ). of d x (arity w.atom.args)) (sym (in-text w).name-at.spelt)
 
-  pub near-found : (declared : List ℕ) (n near : ℕ) (bytes : List ℕ) → bytes ≡ spelling s name.at name.len
+  pub near-found : (s declared : List ℕ) (n near : ℕ) (bytes : List ℕ) → bytes ≡ spelling g name.at name.len
       → ((d : DeclarationsAt s declared n) → (near < n) × (of (nth_declaration d.list near) bytes name.arguments ≡ true))
-      → (d : DeclarationsAt s declared n) (w : AtomAt s table p) → first_repeat [] d.list ≡ none → Finds d.list w.atom (Some near)
-  near-found declared n near bytes eb h d w once =
+      → (d : DeclarationsAt s declared n) (w : AtomAt g table p) → first_repeat [] d.list ≡ none → OnlyDeclaration d.list w.atom (Some near)
+  near-found s declared n near bytes eb h d w once =
       near-finds d.list once w.atom near (omega (arith, (h d).0, d.count))
       (sym (of-atom w (nth_declaration d.list near)) ∙ sym (ap (λ (x : List ℕ). of (nth_declaration d.list near) x name.arguments) eb) ∙ (h d).1)
 
 -- ---- the predicate that needs no clause
 
-module _ {s declared : List ℕ} {n : ℕ} (d : DeclarationsAt s declared n) {i : ℕ} (h : i < n) {name : Name} (en : name ≡ name_in declared i) where
+module _ {s declared : List ℕ} {n : ℕ} (d : DeclarationsAt s declared n) {i : ℕ} (h : i < n) {name : Entry} (en : name ≡ entry_from declared i) where
   at : name.at ≡ get_or declared (4 * i) 0
-  at = ap (λ (x : Name). x.at) en
+  at = ap (λ (x : Entry). x.at) en
 
   len : name.len ≡ get_or declared (4 * i + 1) 0
-  len = ap (λ (x : Name). x.len) en
+  len = ap (λ (x : Entry). x.len) en
 
   marks : name.arguments ≡ get_or declared (4 * i + 2) 0
-  marks = ap (λ (x : Name). x.arguments) en
+  marks = ap (λ (x : Entry). x.arguments) en
 
   counted : name.arguments ≡ length (nth_declaration d.list i).marks
   counted = arity-is s declared n d i h name.at name.len name.arguments at len marks

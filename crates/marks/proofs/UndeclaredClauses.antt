@@ -10,8 +10,8 @@ use Rattle.syntax.specs.Terms.{term_of, Declaration, Clause}
 use Rattle.syntax.specs.Words.{clause_start, term_words, atom_words, body_words, body_length, clause_words, clauses_words}
 use Rattle.syntax.specs.declared.Refusal.{Refusal}
 use Rattle.mode_rules.specs.Modes.{undeclared_atom, undeclared_body, undeclared_clause, undeclared_clauses}
-use Rattle.marks.specs.Standing.{ClausesSpelt, clause_stands}
-use Rattle.words.specs.Tables.{Has}
+use Rattle.marks.specs.Spelt.{ClausesSpelt, clause_stands}
+use Rattle.words.specs.Tables.{WordsAt}
 use Rattle.marks.specs.Tables.{TermAt, AtomAt, BodyAt, ClauseAt, ClausesAt}
 use Rattle.std.specs.Prelude.{Ok, Err}
 use Rattle.marks.specs.Answers.{Checked, checked_of}
@@ -28,7 +28,7 @@ says {s} {table} {p} w = (clause-says table p w.clause w.has).words
 pub clause-room : {s table : List ℕ} {p : ℕ} → ClauseAt s table p → p + 2 < length table
 clause-room w = (says w).inside
 
-pub clause-words : {s table : List ℕ} {p : ℕ} → ClauseAt s table p → (c : Clause) × Has table p (clause_words c)
+pub clause-words : {s table : List ℕ} {p : ℕ} → ClauseAt s table p → (c : Clause) × WordsAt table p (clause_words c)
 clause-words w = (w.clause, w.has)
 
 abbrev pub head-at : {s table : List ℕ} {p : ℕ} → ClauseAt s table p → AtomAt s table (p + 3)
@@ -48,7 +48,7 @@ module _ (s table : List ℕ) (p literals : ℕ) (el : literals ≡ get_or table
   abbrev pub body_at : ClauseAt s table p → BodyAt s table first literals
   body_at w = record {
     body = w.clause.body;
-    has = subst⁻¹ (λ (k : ℕ). Has table k (body_words w.clause.body)) (ef (head-term w)) (has_right table (p + 3) (atom_words w.clause.head) (body_words w.clause.body) (says w).rest);
+    has = subst⁻¹ (λ (k : ℕ). WordsAt table k (body_words w.clause.body)) (ef (head-term w)) (has_right table (p + 3) (atom_words w.clause.head) (body_words w.clause.body) (says w).rest);
     count = el ∙ (says w).third;
     stands = w.stands.body;
   }
@@ -73,7 +73,7 @@ module _ (ds : List Declaration) (s table : List ℕ) (p c : ℕ) (f : Checked) 
 -- what is left of the clauses from the i-th on, at a place
 pub record Ahead (s table : List ℕ) (at i clauses : ℕ) (whole : Option Refusal) (rest : ℕ → List Clause → Option Refusal) : Type 0 where
   pub list : List Clause
-  pub has : Has table at (clauses_words list)
+  pub has : WordsAt table at (clauses_words list)
   pub count : clauses ≡ i + length list
   pub stand : ClausesSpelt s list
   pub same : whole ≡ rest (suc i) list
@@ -83,11 +83,11 @@ pub record Turn (s table : List ℕ) (at i clauses : ℕ) (cs : List Clause) : T
   pub clause : ClauseAt s table at
   pub left : List Clause
   pub is : cs ≡ clause.clause ∷ left
-  pub has : Has table (at + length (clause_words clause.clause)) (clauses_words left)
+  pub has : WordsAt table (at + length (clause_words clause.clause)) (clauses_words left)
   pub count : clauses ≡ i + 1 + length left
   pub stand : ClausesSpelt s left
 
-turn_by : (s table : List ℕ) (at i clauses : ℕ) (cs : List Clause) → i < clauses → Has table at (clauses_words cs) → clauses ≡ i + length cs → ClausesSpelt s cs → Turn s table at i clauses cs
+turn_by : (s table : List ℕ) (at i clauses : ℕ) (cs : List Clause) → i < clauses → WordsAt table at (clauses_words cs) → clauses ≡ i + length cs → ClausesSpelt s cs → Turn s table at i clauses cs
 unfolding clauses_words
 turn_by s table at i clauses [] l h c k = absurd (omega arith)
 turn_by s table at i clauses (x ∷ cs) l h c (clause_stands k ks) = record {
@@ -130,7 +130,7 @@ module _ {s table : List ℕ} {at i clauses : ℕ} {whole : Option Refusal} {res
         let z : Turn s table at i clauses a.list = turn l a in
         record {
           list = z.left;
-          has = subst⁻¹ (λ (k : ℕ). Has table k (clauses_words z.left)) (n z.clause) z.has;
+          has = subst⁻¹ (λ (k : ℕ). WordsAt table k (clauses_words z.left)) (n z.clause) z.has;
           count = omega (arith, z.count);
           stand = z.stand;
           same = whole_is a ∙ fine-goes (one (suc i) z.clause.clause) (rest (suc (suc i)) z.left) (here a) t

@@ -8,12 +8,12 @@ use Rattle.syntax.specs.Terms.{Literal, Body, call, equation, truth, falsity, ei
 use Rattle.syntax.specs.Words.{literal_words, body_words, literal_length, body_length, side_words, side_items, left_kind, right_kind, behind_kind}
 use Rattle.syntax.proofs.Words.{marker-items}
 use Rattle.mode_rules.specs.Modes.{Known, Walk, known, walk_on, in_both, literal_walk, body_fault}
-use Rattle.marks.specs.Standing.{BodySpelt, also_stands}
-use Rattle.words.specs.Tables.{Has}
+use Rattle.marks.specs.Spelt.{BodySpelt, also_stands}
+use Rattle.words.specs.Tables.{WordsAt}
 use Rattle.marks.specs.Tables.{LiteralAt, BodyAt}
 use Rattle.std.specs.Prelude.{Result, Ok, Err}
 use Rattle.syntax.specs.declared.Refusal.{Refusal}
-use Rattle.marks.specs.LiteralsAnswers.{walk_by, Passes, PastLiteral, PastBody}
+use Rattle.marks.specs.LiteralsAnswers.{walk_by, WalkPassed, PastLiteral, PastBody}
 use Rattle.marks.specs.Sides.{SideAt}
 use Rattle.marks.specs.declared.literals.Passed.{Passed}
 use Rattle.words.proofs.TablesLaws.{has_left, has_right, has-inside}
@@ -26,8 +26,8 @@ unfolding walk_on
 goes_by rest e t = ap (λ (z : Walk). walk_on z rest) (sym e ∙ ap walk_by t)
 
 -- a walk that stops at a fault of its first part
-stopped : {r : Result Passed Refusal} {q : Refusal} {w : Walk} {next items literal : ℕ} (rest : Known → Walk) → r ≡ Err q → Passes r w next items literal
-    → (whole : Walk) → whole ≡ walk_on w rest → (stop all last : ℕ) → Passes (Err q) whole stop all last
+stopped : {r : Result Passed Refusal} {q : Refusal} {w : Walk} {next items literal : ℕ} (rest : Known → Walk) → r ≡ Err q → WalkPassed r w next items literal
+    → (whole : Walk) → whole ≡ walk_on w rest → (stop all last : ℕ) → WalkPassed (Err q) whole stop all last
 unfolding walk_on
 stopped {r} {q} {w} rest t p whole e stop all last =
     passes-err q stop all last (ap (λ (z : Walk). walk_on z rest) (ap walk_by (sym t) ∙ p.walk) ∙ sym e)
@@ -91,7 +91,7 @@ either-by {g} {table} {p} s (view_either {y} {z} q h ky kz) =
     let a : length (side_words left_kind y ++ (side_words right_kind z ++ (behind_kind ∷ []))) ≡ length (side_words left_kind y) + length (side_words right_kind z ++ (behind_kind ∷ [])) =
     length-append (side_words left_kind y) (side_words right_kind z ++ (behind_kind ∷ [])) in
     let b : length (side_words right_kind z ++ (behind_kind ∷ [])) ≡ length (side_words right_kind z) + 1 = length-append (side_words right_kind z) (behind_kind ∷ []) in
-    let r : Has table (p + length (side_words left_kind y)) (side_words right_kind z ++ (behind_kind ∷ [])) =
+    let r : WordsAt table (p + length (side_words left_kind y)) (side_words right_kind z ++ (behind_kind ∷ [])) =
     has_right table p (side_words left_kind y) (side_words right_kind z ++ (behind_kind ∷ [])) h in
     let at : p + length (side_words left_kind y) ≡ p + 1 + length (body_words y) = omega arith in
     record {
@@ -100,7 +100,7 @@ either-by {g} {table} {p} s (view_either {y} {z} q h ky kz) =
         body = z;
         kind = right_kind;
         small = omega arith;
-        has = subst (λ (k : ℕ). Has table k (side_words right_kind z)) at (has_left table (p + length (side_words left_kind y)) (side_words right_kind z) (behind_kind ∷ []) r);
+        has = subst (λ (k : ℕ). WordsAt table k (side_words right_kind z)) at (has_left table (p + length (side_words left_kind y)) (side_words right_kind z) (behind_kind ∷ []) r);
         stands = kz;
       };
       is = refl;
@@ -200,7 +200,7 @@ module _ {g table : List ℕ} {p items : ℕ} (e : items ≡ side_items (get_or 
 -- what is left of it, behind i items, at a place before the literal of that number, with what is known there; it ends at stop, before the literal last
 pub record Ahead (ds : List Declaration) (c : ℕ) (g table : List ℕ) (at i items number : ℕ) (τ : Known) (whole : Walk) (stop last : ℕ) : Type 0 where
   pub body : Body
-  pub has : Has table at (body_words body)
+  pub has : WordsAt table at (body_words body)
   pub count : items ≡ i + body_length body
   pub stands : BodySpelt g body
   pub same : whole ≡ body_fault ds c number τ body
@@ -212,12 +212,12 @@ pub record Turn (g table : List ℕ) (at i items : ℕ) (b : Body) : Type 0 wher
   pub literal : LiteralAt g table at
   pub left : Body
   pub is : b ≡ also literal.literal left
-  pub has : Has table (at + length (literal_words literal.literal)) (body_words left)
+  pub has : WordsAt table (at + length (literal_words literal.literal)) (body_words left)
   pub count : items ≡ i + literal_length literal.literal + body_length left
   pub some : 1 ≤ literal_length literal.literal
   pub stands : BodySpelt g left
 
-turn_by : (g table : List ℕ) (at i items : ℕ) (b : Body) → i < items → Has table at (body_words b) → items ≡ i + body_length b → BodySpelt g b → Turn g table at i items b
+turn_by : (g table : List ℕ) (at i items : ℕ) (b : Body) → i < items → WordsAt table at (body_words b) → items ≡ i + body_length b → BodySpelt g b → Turn g table at i items b
 unfolding body_words body_length
 turn_by g table at i items done l h c k = absurd (omega arith)
 turn_by g table at i items (also x b) l h c (also_stands k ks) = record {
@@ -241,7 +241,7 @@ begun w = record { body = w.body; has = w.has; count = omega (arith, w.count); s
 
 module _ {ds : List Declaration} {c : ℕ} {g table : List ℕ} {at i items number : ℕ} {τ : Known} {whole : Walk} {stop last : ℕ} where
   pub walk-ended : {many : ℕ} → items ≡ many → items ≤ i → Ahead ds c g table at i items number τ whole stop last
-      → Passes (Ok (record { known = τ; next = at; items = items; literal = number })) whole stop many last
+      → WalkPassed (Ok (record { known = τ; next = at; items = items; literal = number })) whole stop many last
   unfolding body_fault body_words literals_of
   walk-ended m l a =
       let d : a.body ≡ done = over i items a.body l a.count in
@@ -261,7 +261,7 @@ module _ {ds : List Declaration} {c : ℕ} {g table : List ℕ} {at i items numb
     whole_is = a.same ∙ ap (body_fault ds c number τ) turn.is
 
     module _ {wr : Result Passed Refusal} (ew : (u : LiteralAt g table at) → PastLiteral wr ds c number τ at u.literal) where
-      pub walk-stopped : {q : Refusal} → wr ≡ Err q → (next count after : ℕ) → Passes (Err q) whole next count after
+      pub walk-stopped : {q : Refusal} → wr ≡ Err q → (next count after : ℕ) → WalkPassed (Err q) whole next count after
       walk-stopped t next count after = stopped _ t (ew turn.literal) whole whole_is next count after
 
       module _ {w : Passed} (f : wr ≡ Ok w) where
@@ -289,7 +289,7 @@ module _ {ds : List Declaration} {c : ℕ} {g table : List ℕ} {at i items numb
             let literals : literals_of a.body ≡ literals_in here + literals_of t.left = ap literals_of t.is in
             record {
               body = t.left;
-              has = subst⁻¹ (λ (k : ℕ). Has table k (body_words t.left)) (q.next_is w f) t.has;
+              has = subst⁻¹ (λ (k : ℕ). WordsAt table k (body_words t.left)) (q.next_is w f) t.has;
               count = omega (arith, t.count, q.items_are w f);
               stands = t.stands;
               same =

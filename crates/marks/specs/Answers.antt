@@ -6,7 +6,7 @@ use Rattle.std.proofs.Math.Option.{none, some}
 use Rattle.syntax.specs.Terms.{Atom, Declaration, arity, same_predicate}
 use Rattle.syntax.specs.Words.{declaration_size}
 use Rattle.syntax.specs.declared.Refusal.{Refusal}
-use Rattle.marks.specs.declared.declarations.Name.{Name}
+use Rattle.syntax.specs.declared.Entry.{Entry}
 
 -- what a check gives: no fault, or the first one
 abbrev pub Checked : Type 0
@@ -17,16 +17,8 @@ checked_of none = Ok tt
 checked_of (some r) = Err r
 
 -- a name's byte, length and number of arguments
-abbrev pub atom_name : Atom → Name
+abbrev pub atom_name : Atom → Entry
 atom_name a = record { at = a.at; len = length a.name; arguments = arity a.args }
-
--- what the words of the i-th declaration say: its name's byte and length, and how many marks it has
-abbrev pub name_in : List ℕ → ℕ → Name
-name_in words i = record {
-  at = get_or words (declaration_size * i) 0;
-  len = get_or words (declaration_size * i + 1) 0;
-  arguments = get_or words (declaration_size * i + 2) 0;
-}
 
 -- no open variable, or the byte of the first one
 abbrev pub groundness_of : maybe.Option ℕ → Option ℕ

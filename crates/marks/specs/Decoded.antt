@@ -8,8 +8,8 @@ use mathlib.Core.HLevel.{is_prop→PathP, ×₃_prop}
 use Rattle.syntax.specs.Tokens.{spelling}
 use Rattle.syntax.specs.Terms.{Mark, input, output, free, Declaration}
 use Rattle.syntax.specs.Words.{mark_number, marks_number, mark_numbers, first_mark, other_marks, declaration_words, declarations_words}
-use Rattle.words.specs.Tables.{Has}
-use Rattle.marks.specs.Standing.{NameAt, DeclarationSpelt, DeclarationsSpelt, no_declarations, declaration_stands}
+use Rattle.words.specs.Tables.{WordsAt}
+use Rattle.marks.specs.Spelt.{NameAt, DeclarationSpelt, DeclarationsSpelt, no_declarations, declaration_stands}
 use Rattle.marks.specs.Tables.{DeclarationsAt}
 
 -- the mark of a number, and so many marks of a number that holds them all
@@ -73,7 +73,7 @@ declaration-told s words p d at len count marks h = λ i. record {
 }
 
 declarations-told : (s words : List ℕ) (p : ℕ) (ds : List Declaration)
-    → Has words p (declarations_words ds)
+    → WordsAt words p (declarations_words ds)
     → DeclarationsSpelt s ds
     → declarations_in s words p (length ds) ≡ ds
 unfolding declarations_in declarations_words declaration_words
@@ -85,7 +85,7 @@ declarations-told s words p (d ∷ ds) h (declaration_stands x xs) =
 
 -- ---- what stands at a place stands there in one way
 
-Has-prop : (table : List ℕ) (p : ℕ) (ws : List ℕ) → IsProp (Has table p ws)
+Has-prop : (table : List ℕ) (p : ℕ) (ws : List ℕ) → IsProp (WordsAt table p ws)
 Has-prop table p [] = Unit-prop
 Has-prop table p (w ∷ ws) = ×₃_prop le_prop (Coded-set coded_ℕ (get_or table p 0) w) (Has-prop table (p + 1) ws)
 
@@ -108,7 +108,7 @@ DeclarationsSpelt-prop s (d ∷ ds) (declaration_stands x xs) (declaration_stand
 pub DeclarationsAt-prop : (s declared : List ℕ) (n : ℕ) → IsProp (DeclarationsAt s declared n)
 DeclarationsAt-prop s declared n x y = λ i. record {
   list = same i;
-  has = is_prop→PathP (λ j. Has declared 0 (declarations_words (same j))) (λ j. Has-prop declared 0 (declarations_words (same j))) x.has y.has i;
+  has = is_prop→PathP (λ j. WordsAt declared 0 (declarations_words (same j))) (λ j. Has-prop declared 0 (declarations_words (same j))) x.has y.has i;
   count = is_prop→PathP (λ j. n ≡ length (same j)) (λ j. Coded-set coded_ℕ n (length (same j))) x.count y.count i;
   stand = is_prop→PathP (λ j. DeclarationsSpelt s (same j)) (λ j. DeclarationsSpelt-prop s (same j)) x.stand y.stand i;
 }

@@ -25,7 +25,7 @@ is_place None i = false
 is_place (Some k) i = eqb i k
 
 -- r is the number of the only declaration of an atom's predicate, or none where it has no declaration
-pub record Finds (ds : List Declaration) (a : Atom) (r : Option ℕ) : Type 0 where
+pub record OnlyDeclaration (ds : List Declaration) (a : Atom) (r : Option ℕ) : Type 0 where
   pub low : (k : ℕ) → r ≡ Some k → k < length ds
   pub only : (i : ℕ) → i < length ds → same_predicate (nth_declaration ds i).name (length (nth_declaration ds i).marks) a.name (arity a.args) ≡ is_place r i
 

@@ -4,9 +4,9 @@ use Rattle.std.proofs.Math.Option.{Option, none}
 use Rattle.syntax.specs.Terms.{term_of, Declaration}
 use Rattle.syntax.specs.declared.Refusal.{Refusal}
 use Rattle.mode_rules.specs.Modes.{undeclared_atom}
-use Rattle.words.specs.Tables.{Has}
+use Rattle.words.specs.Tables.{WordsAt}
 use Rattle.words.specs.Items.{Item, plain_call, plain_equation, plain_truth, plain_falsity, before_left, before_right, behind, item_words}
-use Rattle.marks.specs.Standing.{TermSpelt}
+use Rattle.marks.specs.Spelt.{TermSpelt}
 use Rattle.marks.specs.declared.declarations.ReadText.{ReadText}
 
 -- how many literals an item counts for: a word of a bracket counts for none
@@ -42,7 +42,7 @@ ItemSpelt g behind = Unit {0}
 -- an item of a body of the text g stands at p
 pub record ItemAt (g table : List ℕ) (p : ℕ) : Type 0 where
   pub item : Item
-  pub has : Has table p (item_words item)
+  pub has : WordsAt table p (item_words item)
   pub stands : ItemSpelt g item
 
 abbrev pub ItemIn : ReadText → ℕ → Type 0

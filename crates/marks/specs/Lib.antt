@@ -1,8 +1,8 @@
-pub mod Standing
+pub mod Spelt
 pub mod Tables
 pub mod Decoded
 pub mod Answers
-pub mod Stand
+pub mod InTables
 pub mod Searching
 pub mod Functors
 pub mod ArgumentsAnswers

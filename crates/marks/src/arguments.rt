@@ -1,6 +1,5 @@
-// The arguments of an atom that have one mark: the first that is not ground, and what they make ground. A mark is a number here, as it stands in the word
-// that packs an atom's marks. Place, marks and flags go along as parameters: they step on from argument to argument, so a struct of them would be made anew
-// at each.
+// The arguments of an atom that have one mark: the first that is not ground, and what they make ground. A mark is a number, as it stands in the word that
+// packs an atom's marks. Arguments stand from the place `p` up to the place `stop`; `marks` packs those from the argument at `p` on.
 
 ghost use Rattle.std.specs.Prelude.{◌≡◌, ◌+◌, ◌≤◌, eqb, length};
 ghost use Rattle.syntax.specs.Terms.{input, output, Mark};
@@ -17,14 +16,14 @@ use syntax::{INPUT, NODE_WORDS, OUTPUT, Refusal};
 use words::packing::{first_mark, other_marks};
 use words::tables::past;
 
-// The first argument that has a mark and is not ground: its number, and the byte of the first variable in it that is not known ground.
+/// The first argument that has a mark and is not ground: its number, from 1 on, and the byte of the first variable in it that is not known ground.
 #[derive(Clone, Copy)]
 pub struct FirstOpen {
     pub argument: usize,
     pub byte: usize,
 }
 
-// The ground test of a term whose mark is the lowest of `marks`; with another mark it passes.
+// The ground test of the term at `p`, whose mark is the first of `marks`: none where it is ground, or where its mark is not `mark`.
 fn marked_test(table: &[u32], p: usize, marks: usize, mark: usize, known: Known) -> Option<usize>
     requires { TermAt table.now p }
     ensures { (w : TermAt table.now p) → result ≡ groundness_of (if_marked (eqb (first_mark marks) mark) (open_byte known w.term)) }
@@ -35,7 +34,7 @@ fn marked_test(table: &[u32], p: usize, marks: usize, mark: usize, known: Known)
     ground_test(table, p, known)
 }
 
-// The first of the terms up to a place that has the mark and is not ground; the numbers count from `number`.
+// The first of the terms from `p` to `stop` that has the mark and is not ground; they are numbered from `number` on.
 fn first_open(
     table: &[u32],
     p: usize,
@@ -67,7 +66,7 @@ fn first_open(
     }
 }
 
-// What is known once the variables of the terms up to a place that have the mark are ground.
+/// What is known ground once the variables of those terms from `p` to `stop` that have the mark are.
 pub fn ground_marked(
     table: &[u32],
     p: usize,
@@ -91,7 +90,7 @@ pub fn ground_marked(
     ground_marked(table, next, stop, rest, mark, known)
 }
 
-// The first argument of an atom that has the mark and is not ground, by the atom's marks.
+// The first argument of the atom at `p` that has the mark and is not ground, by the atom's marks.
 fn open_argument(
     table: &[u32],
     p: usize,
@@ -109,7 +108,7 @@ fn open_argument(
     first_open(table, from, stop, marks, mark, known, 1)
 }
 
-// The fault of a call, by its marks: the first + argument that is not ground.
+/// Refusal 9 of the call at `p`, by its marks: the first + argument that is not ground.
 pub fn call_fault(
     table: &[u32],
     p: usize,
@@ -138,8 +137,7 @@ pub fn call_fault(
     }
 }
 
-// The fault of a head after its body, by its marks: the first - argument that is not ground. (Beside `call_fault`: the search is one, `open_argument`; what
-// is made of its find are two refusals with other fields.)
+/// Refusal 10 of the head at `p`, by its marks and what is known after its body: the first - argument that is not ground.
 pub fn head_fault(
     table: &[u32],
     p: usize,

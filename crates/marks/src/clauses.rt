@@ -1,4 +1,4 @@
-// The mode check: refusals 8 to 10 of RULES, over the tables of words that the parser fills.
+// Refusals 8 to 10 of RULES: of a goal, and in `clause_faults` 9 and 10 of clauses, over the tables of words that the parser fills.
 
 pub mod clause_faults;
 
@@ -12,7 +12,7 @@ use crate::declarations::{ClauseCheck, Declarations, ReadText};
 use crate::undeclared::undeclared_body;
 use syntax::{Refusal, VARIABLES};
 
-// Refusals 8 and 9 of a goal whose items stand in the table, by the sheet's declarations.
+/// Refusals 8 and 9 of a goal whose `items` items stand in the table from place 0 on, by the sheet's declarations. A goal is clause 0.
 pub fn check_goal(
     declarations: Declarations<'_>,
     read: ReadText<'_>,

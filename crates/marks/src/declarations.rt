@@ -1,64 +1,64 @@
-// The declaration of a predicate, and its marks.
-ghost use Rattle.std.specs.Prelude.{◌≡◌, true, ◌+◌, ◌≤◌, ◌<◌, length, is_some};
+// What is checked and by what: a text that was read, the declarations of a sheet, and the declaration and marks of a predicate.
+ghost use Rattle.std.specs.Prelude.{◌≡◌, true, [], ◌+◌, ◌≤◌, ◌<◌, length, is_some};
+ghost use Rattle.std.proofs.Math.Option.{none};
+ghost use Rattle.syntax.specs.Reading.{first_repeat};
 ghost use Rattle.syntax.specs.Tokens.{spelling};
-ghost use Rattle.syntax.specs.Terms.{arity};
+ghost use Rattle.syntax.specs.Terms.{arity, same_predicate};
 ghost use Rattle.syntax.specs.Words.{marks_number};
 ghost use Rattle.mode_rules.specs.Modes.{marks_for, undeclared_atom};
 ghost use Rattle.marks.specs.Tables.{DeclarationsAt, NamedAt};
 ghost use Rattle.marks.specs.Decoded.{DeclarationsAt-prop};
-ghost use Rattle.marks.specs.Answers.{checked_of, atom_name, name_in, position};
+ghost use Rattle.words.specs.Tables.{entry_from};
+ghost use Rattle.mode_rules.specs.Written.{is_exempt};
+ghost use Rattle.marks.specs.Repeating.{nth_declaration};
+ghost use Rattle.marks.specs.Answers.{checked_of, atom_name, position};
 
 use crate::lookup::{is_match, look_among};
-use syntax::{DECLARATION_SIZE, Refusal};
+use syntax::{DECLARATION_SIZE, Entry, Refusal};
 use words::packing::{arity_of, length_of};
-use words::tables::word_at;
+use words::tables::{entry_at, word_at};
 
 // Where the marks stand among the words of a declaration: they are the last.
 const MARKS_WORD: usize = DECLARATION_SIZE - 1;
 
-// The name of an atom or a declaration: its byte, its length, and the number of arguments or marks behind it. (`syntax::Entry` has the same fields: what the
-// library hands out stays apart from what the marks use inside, and `syntax` has no code, so no methods.)
-#[derive(Clone, Copy)]
-pub struct Name {
-    pub at: usize,
-    pub len: usize,
-    pub arguments: usize,
+// The predicate of a trace's facts.
+const SEEN: [u8; 4] = *b"seen";
+
+/// The number of arguments of `seen`, the predicate of a trace's facts.
+pub const SEEN_ARGUMENTS: usize = 3;
+
+/// The bytes of a name in the text that it is of.
+#[tactic(auto, using(crate::proofs::Marking::part_is))]
+pub fn name_bytes(text: &[u8], name: Entry) -> &[u8]
+    requires { name.at + name.len ≤ length text.now }
+    ensures { result.now ≡ spelling text.now name.at name.len }
+{
+    &text[name.at..name.at + name.len]
 }
 
-impl Name {
-    // Its bytes in the text that it is of.
-    #[tactic(auto, using(crate::proofs::Marking::part_is))]
-    pub fn bytes(self, text: &[u8]) -> &[u8]
-        requires { self.at + self.len ≤ length text.now }
-        ensures { result.now ≡ spelling text.now self.at self.len }
-    {
-        &text[self.at..self.at + self.len]
-    }
-}
-
-// The name of the atom at a place.
-pub fn name_at(table: &[u32], p: usize) -> Name
+/// The name of the atom at place `p` of a table, and how many arguments it has.
+pub fn name_at(table: &[u32], p: usize) -> Entry
     requires { NamedAt table.now p }
     ensures { (w : NamedAt table.now p) → result ≡ atom_name w.atom }
 {
     let what = word_at(table, p);
     let at = word_at(table, p + 2);
-    Name {
+    Entry {
         at,
         len: length_of(what),
         arguments: arity_of(what),
     }
 }
 
-// A text, and the table of the words that it was read into. (What is asked of a place in it, `AtomIn`, is of text and place, so it is no fact of the struct.)
+/// A text, and the table of the words that it was read into.
 #[derive(Clone, Copy)]
 pub struct ReadText<'a> {
     pub text: &'a [u8],
     pub table: &'a [u32],
 }
 
-// The declarations of a sheet as they were read: the sheet's text, the words of the declarations, and how many they are. (The words are the whole lent table:
-// how many declarations fill it is known once it is read, and the search for an earlier one takes fewer of the same words.)
+/// The declarations of a sheet as they were read: the sheet's text, the whole lent table of their words, and how many there are. With a smaller count
+/// they are the first ones.
 #[derive(Clone, Copy)]
 pub struct Declarations<'a> {
     pub text: &'a [u8],
@@ -69,59 +69,78 @@ pub struct Declarations<'a> {
 }
 
 impl<'a> Declarations<'a> {
-    ghost use Rattle.marks.specs.Stand.{Stand, AtomIn};
+    ghost use Rattle.marks.specs.InTables.{DeclarationsIn, AtomIn};
+    ghost use Rattle.marks.specs.Flags.{OnlyDeclaration};
 
-    // The name of declaration i, and how many marks it has.
-    pub fn name_of(self, i: usize) -> Name
+    /// The name of declaration `i`, from 0 on, and how many marks it has.
+    pub fn name_of(self, i: usize) -> Entry
         requires { i < self.count }
-        ensures { result ≡ name_in self.entry.words.now i }
+        ensures { result ≡ entry_from self.entry.words.now i }
     {
-        let p = DECLARATION_SIZE * i;
-        Name {
-            at: word_at(self.words, p),
-            len: word_at(self.words, p + 1),
-            arguments: word_at(self.words, p + 2),
-        }
+        entry_at(self.words, i)
     }
 
-    // The search for the declaration of the predicate of a name and a number of arguments: which of them it is.
+    /// The number, from 0 on, of the first declaration of the predicate of a name and a number of arguments; none where it is not declared.
     pub fn find(self, name: &[u8], arguments: usize) -> Option<usize>
-        ensures { (w : Stand self.entry) → result ≡ position w.list name.now arguments }
+        ensures { (w : DeclarationsIn self.entry) → result ≡ position w.list name.now arguments }
     {
         look_among(self.text, self.words, self.count, name, arguments).place
     }
 
-    // The same for the predicate of the atom at a place.
+    /// The number of the first declaration of the predicate of the atom at place `p`; none where it is not declared.
     pub fn find_atom(self, read: ReadText<'_>, p: usize) -> Option<usize>
         requires { AtomIn read p }
-        ensures { (d : Stand self.entry) (w : AtomIn read.entry p) → result
+        ensures { (d : DeclarationsIn self.entry) (w : AtomIn read.entry p) → result
             ≡ position d.list w.atom.name (arity w.atom.args) }
     {
         let name = name_at(read.table, p);
-        self.find(name.bytes(read.text), name.arguments)
+        self.find(name_bytes(read.text, name), name.arguments)
     }
 
-    // Whether the declaration numbered `near` is one of the predicate of the atom at a place. Clauses of a predicate stand together and call it,
-    // so the declaration found last is worth a try before a search.
-    pub fn is_near(self, read: ReadText<'_>, p: usize, near: usize) -> bool
-        requires { AtomIn read p }
-        ensures { result ≡ true → (d : Stand self.entry) (w : AtomIn read.entry p)
-            → is_some (position d.list w.atom.name (arity w.atom.args)) ≡ true }
+    /// Whether declaration `i`, which may be any number, is one of the predicate of a name and a number of arguments.
+    pub fn declares(self, i: usize, name: &[u8], arguments: usize) -> bool
+        ensures declared { result ≡ true → (d : DeclarationsIn self.entry) → (i < self.entry.count)
+            × (same_predicate (nth_declaration d.list i).name (length (nth_declaration d.list i).marks) name.now arguments
+            ≡ true) }
+        ensures found { result ≡ true → (d : DeclarationsIn self.entry)
+            → is_some (position d.list name.now arguments) ≡ true }
     {
-        if self.count <= near {
+        if self.count <= i {
             return false;
         }
-        let name = name_at(read.table, p);
-        let q = near * DECLARATION_SIZE;
-        let bytes = name.bytes(read.text);
-        is_match(self.text, self.words, q, bytes, name.arguments)
+        let q = DECLARATION_SIZE * i;
+        is_match(self.text, self.words, q, name, arguments)
     }
 
-    // The marks of the predicate of the atom at a place, in one number. By the rules a predicate without declaration has no marks, as one without
-    // arguments has none, so its number is 0 too, and no caller asks which of the two it is.
+    /// The number of the declaration of the predicate of the atom at place `p`; none where it has none. Declaration `near` is tried first: clauses of a predicate stand
+    /// together.
+    pub fn find_near(self, read: ReadText<'_>, p: usize, near: usize) -> Option<usize>
+        requires { AtomIn read p }
+        ensures { (d : DeclarationsIn self.entry) (w : AtomIn read.entry p) → first_repeat [] d.list ≡ none
+            → OnlyDeclaration d.list w.atom result }
+    {
+        let name = name_at(read.table, p);
+        let bytes = name_bytes(read.text, name);
+        if self.declares(near, bytes, name.arguments) {
+            return Some(near);
+        }
+        self.find(bytes, name.arguments)
+    }
+
+    /// Whether declaration `i` is `seen` with three arguments, the predicate of a trace's facts, which needs no clause.
+    pub fn is_seen(self, i: usize) -> bool
+        requires { i < self.count }
+        ensures { (d : DeclarationsIn self.entry) → result ≡ is_exempt (nth_declaration d.list i) }
+    {
+        let name = self.name_of(i);
+        name.arguments == SEEN_ARGUMENTS && name_bytes(self.text, name) == &SEEN[..]
+    }
+
+    /// The marks of the predicate of the atom at place `p`, in one number: 0 where it has no arguments, and where it is not declared, which by the rules is
+    /// a predicate without marks.
     pub fn marks_of(self, read: ReadText<'_>, p: usize) -> usize
         requires { AtomIn read p }
-        ensures { (d : Stand self.entry) (w : AtomIn read.entry p) → result ≡ marks_number (marks_for d.list w.atom) }
+        ensures { (d : DeclarationsIn self.entry) (w : AtomIn read.entry p) → result ≡ marks_number (marks_for d.list w.atom) }
     {
         match self.find_atom(read, p) {
             Some(i) => word_at(self.words, i * DECLARATION_SIZE + MARKS_WORD),
@@ -130,8 +149,8 @@ impl<'a> Declarations<'a> {
     }
 }
 
-// What the literals of a clause, or of a goal, are checked by: the declarations of the sheet, where the literals were read, and the number of the
-// clause, 0 for a goal.
+/// What the literals of a clause, or of a goal, are checked by: the declarations of the sheet, where the literals were read, and the number of the
+/// clause, 0 for a goal.
 #[derive(Clone, Copy)]
 pub struct ClauseCheck<'a> {
     pub declarations: Declarations<'a>,
@@ -140,21 +159,22 @@ pub struct ClauseCheck<'a> {
 }
 
 impl<'a> ClauseCheck<'a> {
-    ghost use Rattle.marks.specs.Stand.{Stand, AtomIn};
+    ghost use Rattle.marks.specs.InTables.{DeclarationsIn, AtomIn};
 
-    // The fault of a head or call that has no declaration; the one numbered `near` is tried first.
+    /// Refusal 8 of the head or call at place `p`, literal number `literal`, where it has no declaration; declaration `near` is tried first.
     pub fn undeclared_atom(self, p: usize, literal: usize, near: usize) -> Result<(), Refusal>
         requires { AtomIn self.read p }
-        ensures { (d : Stand self.entry.declarations) (w : AtomIn self.entry.read p) → result
+        ensures { (d : DeclarationsIn self.entry.declarations) (w : AtomIn self.entry.read p) → result
             ≡ checked_of (undeclared_atom d.list self.entry.clause literal w.atom) }
     {
-        if self.declarations.is_near(self.read, p, near) {
-            return Ok(());
-        }
-        if self.declarations.find_atom(self.read, p).is_some() {
-            return Ok(());
-        }
         let name = name_at(self.read.table, p);
+        let bytes = name_bytes(self.read.text, name);
+        if self.declarations.declares(near, bytes, name.arguments) {
+            return Ok(());
+        }
+        if self.declarations.find(bytes, name.arguments).is_some() {
+            return Ok(());
+        }
         Err(Refusal::Undeclared {
             clause: self.clause,
             literal,

@@ -1,11 +1,10 @@
-// What an equation of two terms makes ground, over a node table. Places and flags go along as parameters beside the text and its table: they differ from
-// call to call, so a struct of them would be made anew at each.
+// What an equation of two terms makes ground, over a node table. The terms stand at the places `p` and `q`.
 
 ghost use Rattle.std.specs.Prelude.{◌≡◌, ◌≤◌, get_or};
 ghost use Rattle.syntax.specs.Words.{first_name};
 ghost use Rattle.mode_rules.specs.Modes.{is_ground, equate_variable, equate, equate_all, further, settle};
 ghost use Rattle.marks.specs.Tables.{TermAt};
-ghost use Rattle.marks.specs.Stand.{PairIn, PairsIn};
+ghost use Rattle.marks.specs.InTables.{PairIn, PairsIn};
 ghost use Rattle.marks.specs.Functors.{same_functor};
 
 use crate::declarations::ReadText;
@@ -16,7 +15,7 @@ use words::packing::length_of;
 use words::tables::{past, word_at};
 use words::texts::same_bytes;
 
-// Whether a term is ground, for the equations, which ask no more.
+// Whether a term is ground.
 fn is_ground(table: &[u32], p: usize, known: Known) -> bool
     requires { TermAt table.now p }
     ensures { (w : TermAt table.now p) → result ≡ is_ground known w.term }
@@ -41,7 +40,7 @@ fn equate_variable(table: &[u32], p: usize, q: usize, known: Known) -> Known
     known
 }
 
-// Whether two terms that are no variables have the same name and number of arguments.
+// Whether two terms that are no variables have the same name and number of arguments: their first words say number and length.
 fn same_functor(read: ReadText<'_>, p: usize, q: usize) -> bool
     requires pair_at { PairIn read p q }
     requires first_name_bound { (first_name ≤ get_or read.table.now p 0) × (first_name ≤ get_or read.table.now q 0) }
@@ -75,7 +74,7 @@ fn equate(read: ReadText<'_>, p: usize, q: usize, known: Known) -> Known
     equate_all(read, from, stop, other, known)
 }
 
-// One pass over the equations of two lists of as many terms, from left to right.
+// One pass over the equations of two lists of as many terms, from left to right: from `p` to `stop`, and from `q` on.
 #[cycle(equate_equate_all)]
 fn equate_all(read: ReadText<'_>, p: usize, stop: usize, q: usize, known: Known) -> Known
     requires { PairsIn read p stop q }
@@ -96,7 +95,7 @@ fn go_over(read: ReadText<'_>, p: usize, q: usize, known: Known) -> Known
     ensures { (w : PairIn read.entry p q) → result ≡ settle w.left w.right known }
 {
     let mut flags = known;
-    // How many passes there are is known only from what they leave, so no range or iterator counts them.
+    // How many passes there are is known only from what they leave.
     loop {
         let after = equate(read, p, q, flags);
         if !further(flags, after) {
@@ -106,7 +105,8 @@ fn go_over(read: ReadText<'_>, p: usize, q: usize, known: Known) -> Known
     }
 }
 
-// The effect of an equation of two terms of the text. One pass does where a variable is on a side.
+/// What is known ground after the equation of the terms at `p` and `q`, gone over until a pass makes nothing further ground. One pass does where a variable
+/// is on a side.
 pub fn settle(read: ReadText<'_>, p: usize, q: usize, known: Known) -> Known
     requires { PairIn read p q }
     ensures { (w : PairIn read.entry p q) → result ≡ settle w.left w.right known }

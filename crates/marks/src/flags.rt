@@ -5,17 +5,17 @@ ghost use Rattle.mode_rules.specs.Modes.{further, in_both};
 
 use syntax::VARIABLES;
 
-// What is known ground: a flag for each variable number. An array by value is the list of flags of the definitions, and a store is their `set`.
+/// What is known ground: a flag for each variable number of a clause or goal, true where the variable is known ground.
 pub type Known = [bool; VARIABLES];
 
-// Whether a variable that was unknown before is ground after.
+/// Whether some variable that was unknown before is known ground after.
 pub fn further(before: Known, after: Known) -> bool
     ensures { result ≡ further before after }
 {
     before.iter().zip(&after).any(|(was, is)| !*was && *is)
 }
 
-// What is known ground behind a bracket: what both sides leave ground.
+/// What is known ground behind a bracket: what both sides leave ground.
 pub fn in_both(left: Known, right: Known) -> Known
     ensures { result ≡ in_both left right }
 {

@@ -1,5 +1,5 @@
-// A sheet and a goal held against the marks of the declarations, over the tables of words that parsing fills: what is known ground along a clause, and refusals 7
-// to 10 and 16.
+// A sheet and a goal held against the marks of the declarations, over the tables of words that parsing fills: what is known ground along a clause, and
+// refusals 7 to 10 and 16.
 
 #![tactic(auto)]
 

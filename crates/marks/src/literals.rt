@@ -3,8 +3,8 @@
 ghost use Rattle.std.specs.Prelude.{◌+◌, ◌≤◌, ◌<◌, length, get_or};
 ghost use Rattle.syntax.specs.Words.{atom_words, left_kind};
 ghost use Rattle.mode_rules.specs.Modes.{call_walk};
-ghost use Rattle.marks.specs.LiteralsAnswers.{Passes, PastLiteral};
-ghost use Rattle.marks.specs.Stand.{Stand, AtomIn, LiteralIn};
+ghost use Rattle.marks.specs.LiteralsAnswers.{WalkPassed, PastLiteral};
+ghost use Rattle.marks.specs.InTables.{DeclarationsIn, AtomIn, LiteralIn};
 
 use crate::arguments::{call_fault, ground_marked};
 use crate::declarations::ClauseCheck;
@@ -13,8 +13,8 @@ use crate::flags::Known;
 use syntax::{CALL_KIND, FALSITY_KIND, NODE_WORDS, OUTPUT, Refusal, TRUTH_KIND, VARIABLES};
 use words::tables::{past, word_at};
 
-// What a walk along a part of a body gives where it meets no fault: what is known ground after it, the place past the part, how many items it is, and the
-// number of the next literal. (A walk is given place, number and flags as parameters: it is given no count of items, and the three differ at each call.)
+/// What a walk along a part of a body gives where it meets no fault: what is known ground after it, the place past the part, how many items it is, and the
+/// number of the next literal.
 #[derive(Clone, Copy)]
 pub struct Passed {
     pub known: Known,
@@ -23,7 +23,7 @@ pub struct Passed {
     pub literal: usize,
 }
 
-// A call: its fault, or what is known after it. The inputs are tested by what is known before it.
+// The call whose atom stands at `p`: its fault, or what is known after it. The inputs are tested by what is known before it.
 fn call_walk(
     check: ClauseCheck<'_>,
     p: usize,
@@ -32,8 +32,8 @@ fn call_walk(
 ) -> Result<Passed, Refusal>
     requires atom_at { AtomIn check.read p }
     requires literal_le_p { literal ≤ p }
-    ensures { (d : Stand check.entry.declarations) (w : AtomIn check.entry.read p)
-        → Passes result (call_walk d.list check.entry.clause literal known w.atom) (p + length (atom_words w.atom)) 1 (literal + 1) }
+    ensures { (d : DeclarationsIn check.entry.declarations) (w : AtomIn check.entry.read p)
+        → WalkPassed result (call_walk d.list check.entry.clause literal known w.atom) (p + length (atom_words w.atom)) 1 (literal + 1) }
 {
     let table = check.read.table;
     let marks = check.declarations.marks_of(check.read, p);
@@ -49,7 +49,8 @@ fn call_walk(
     })
 }
 
-// A literal that is no bracket. A literal takes a word or more, so its number is at most its place and one.
+/// Refusal 9 at the literal at `p`, which is no bracket and has the number `literal`; or what is known ground after it, and where the walk goes on. A literal
+/// takes a word or more, so its number is at most its place and one.
 pub fn plain_walk(
     check: ClauseCheck<'_>,
     p: usize,
@@ -58,7 +59,7 @@ pub fn plain_walk(
 ) -> Result<Passed, Refusal>
     requires literal_at { LiteralIn check.read p }
     requires p_bound { (get_or check.read.table.now p 0 < left_kind) × (literal ≤ p + 1) }
-    ensures { (d : Stand check.entry.declarations) (w : LiteralIn check.entry.read p)
+    ensures { (d : DeclarationsIn check.entry.declarations) (w : LiteralIn check.entry.read p)
         → PastLiteral result d.list check.entry.clause literal known p w.literal }
 {
     let table = check.read.table;

@@ -1,4 +1,4 @@
-// The search for a predicate's declaration in a list of entries: it ends at the first match and tells how many entries it compared.
+// The search for a predicate's declaration in a list of entries: it ends at the first match and tells how many entries it compared (REQUESTS (vi)).
 
 ghost use Rattle.std.specs.Prelude.{◌≡◌, ◌&&◌, ◌+◌, ◌*◌, ◌≤◌, ◌<◌, leb, length};
 ghost use Rattle.syntax.specs.Terms.{same_bytes};
@@ -10,7 +10,7 @@ use syntax::DECLARATION_SIZE;
 use words::tables::word_at;
 use words::texts::same_bytes;
 
-// The place of the first match among the entries, from 0 on, and how many entries were compared, it included; or none, and how many there are.
+/// The place of the first match among the entries, from 0 on, and how many entries were compared, it included; or none, and how many there are.
 #[derive(Clone, Copy)]
 pub struct Lookup {
     pub place: Option<usize>,
@@ -18,9 +18,7 @@ pub struct Lookup {
 }
 
 // Whether a name stands in the text at a place, which may be any number: no sum of place and length is taken before both are known to lie within the
-// text, so each test stands before the line that rests on it. The last byte is compared first, since names of a sheet often begin alike: by a comparison of
-// slices alone the search for each of 64 predicates took 131,355 instructions where all begin alike, and so 90,649; 51,924 and 42,943 where they do not
-// (callgrind; both forms in Rust, rustc -O with overflow checks).
+// text, so each test stands before the line that rests on it. The last byte is compared first, since names of a sheet often begin alike.
 fn is_at(text: &[u8], place: usize, name: &[u8]) -> bool
     ensures { result ≡ (leb (place + length name.now) (length text.now) && same_bytes (spelling text.now place
         (length name.now)) name.now) }
@@ -45,7 +43,7 @@ fn is_at(text: &[u8], place: usize, name: &[u8]) -> bool
     same_bytes(text, place, name, 0, rest)
 }
 
-// Whether the entry at a place is of the predicate of a name and a number of arguments.
+/// Whether the entry whose words stand at place `p` is of the predicate of a name and a number of arguments. One that reaches past the text's end is of none.
 pub fn is_match(text: &[u8], entries: &[u32], p: usize, name: &[u8], arguments: usize) -> bool
     requires { p + 2 < length entries.now }
     ensures { result ≡ matches text.now name.now arguments (stored_entry entries.now p) }
@@ -55,12 +53,11 @@ pub fn is_match(text: &[u8], entries: &[u32], p: usize, name: &[u8], arguments: 
         && is_at(text, word_at(entries, p), name)
 }
 
-// The search among the first `n` entries.
+/// The search for the predicate of a name and a number of arguments among the first `n` entries, four words each, as in `look_up`.
 pub fn look_among(text: &[u8], entries: &[u32], n: usize, name: &[u8], arguments: usize) -> Lookup
     requires { n * declaration_size ≤ length entries.now }
     ensures { result ≡ look_up text.now name.now arguments (stored_entries entries.now 0 n) }
 {
-    // A `position` would tell the place alone; how many entries were compared would be worked out from it again.
     for i in 0..n {
         let p = i * DECLARATION_SIZE;
         if is_match(text, entries, p, name, arguments) {
@@ -76,8 +73,8 @@ pub fn look_among(text: &[u8], entries: &[u32], n: usize, name: &[u8], arguments
     }
 }
 
-// The search for the predicate of a name and a number of arguments among as many entries as are whole in the lent words, four words an
-// entry: byte and length of its name, its number of arguments, and a word that is not looked at.
+/// The search for the predicate of a name and a number of arguments among as many entries as are whole in the lent words, four words an
+/// entry: byte and length of its name, its number of arguments, and a word that is not looked at.
 pub fn look_up(text: &[u8], entries: &[u32], name: &[u8], arguments: usize) -> Lookup
     ensures { result ≡ look_up text.now name.now arguments (whole_entries entries.now) }
 {

@@ -1,6 +1,5 @@
-// What is known ground of terms in a node table: each function on a term and the one on a list of terms call each other, as far as the
-// brackets go. (Table, place and flags are three parameters: places, and in `ground_terms` flags, differ from call to call, so a struct of them would be made
-// anew at each.)
+// What is known ground of terms in a node table: each function on a term, which stands at `p`, and the one on a list of terms call each other, as far as the
+// brackets go.
 ghost use Rattle.std.specs.Prelude.{◌≡◌};
 ghost use Rattle.mode_rules.specs.Modes.{open_byte, open_byte_of, ground_term, ground_terms};
 ghost use Rattle.marks.specs.Tables.{TermAt, TermsAt};
@@ -10,7 +9,7 @@ use crate::flags::Known;
 use syntax::{FIRST_NAME, NODE_WORDS};
 use words::tables::{past, word_at};
 
-// The ground test of a term: the byte of the first variable in it that is not known ground, or none where the term is ground.
+/// The ground test of a term: the byte of the first variable in it that is not known ground, or none where the term is ground.
 #[cycle(ground_test_ground_test_all)]
 pub fn ground_test(table: &[u32], p: usize, known: Known) -> Option<usize>
     requires { TermAt table.now p }
@@ -29,7 +28,7 @@ pub fn ground_test(table: &[u32], p: usize, known: Known) -> Option<usize>
     ground_test_all(table, from, stop, known)
 }
 
-// The ground test of all terms up to a place, from left to right.
+// The ground test of all terms from `p` to `stop`, from left to right.
 #[cycle(ground_test_ground_test_all)]
 fn ground_test_all(table: &[u32], p: usize, stop: usize, known: Known) -> Option<usize>
     requires { TermsAt table.now p stop }
@@ -48,7 +47,7 @@ fn ground_test_all(table: &[u32], p: usize, stop: usize, known: Known) -> Option
     }
 }
 
-// What is known once all variables of a term are ground.
+/// What is known ground once all variables of a term are.
 #[cycle(ground_term_ground_terms)]
 pub fn ground_term(table: &[u32], p: usize, known: Known) -> Known
     requires { TermAt table.now p }
@@ -65,7 +64,7 @@ pub fn ground_term(table: &[u32], p: usize, known: Known) -> Known
     ground_terms(table, from, stop, known)
 }
 
-// The same of all terms up to a place.
+// What is known ground once all variables of the terms from `p` to `stop` are.
 #[cycle(ground_term_ground_terms)]
 fn ground_terms(table: &[u32], p: usize, stop: usize, known: Known) -> Known
     requires { TermsAt table.now p stop }

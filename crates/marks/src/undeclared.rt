@@ -4,16 +4,16 @@ ghost use Rattle.std.specs.Prelude.{◌≡◌};
 ghost use Rattle.mode_rules.specs.Modes.{undeclared_body, undeclared_clause, undeclared_clauses};
 ghost use Rattle.marks.specs.Tables.{ClausesAt};
 ghost use Rattle.marks.specs.Answers.{checked_of};
-ghost use Rattle.words.specs.Tables.{Has};
+ghost use Rattle.words.specs.Tables.{WordsAt};
 ghost use Rattle.words.specs.Items.{Item, item_words};
 ghost use Rattle.marks.specs.Items.{ItemIn, undeclared_item, literals_at};
-ghost use Rattle.marks.specs.Stand.{Stand, BodyIn, ClauseIn};
+ghost use Rattle.marks.specs.InTables.{DeclarationsIn, BodyIn, ClauseIn};
 
 use crate::declarations::{ClauseCheck, Declarations, ReadText};
 use syntax::{CALL_KIND, CLAUSE_START, LEFT_KIND, Refusal};
 use words::tables::{CLAUSE_ITEMS, past, past_clause, past_item, word_at};
 
-// The fault of an item that is a call without declaration.
+// Refusal 8 of the item at `p`, where it is a call without declaration.
 fn undeclared_item(
     check: ClauseCheck<'_>,
     p: usize,
@@ -21,7 +21,7 @@ fn undeclared_item(
     near: usize,
 ) -> Result<(), Refusal>
     requires { ItemIn check.read p }
-    ensures { (d : Stand check.entry.declarations) (w : ItemIn check.entry.read p)
+    ensures { (d : DeclarationsIn check.entry.declarations) (w : ItemIn check.entry.read p)
         → result ≡ checked_of (undeclared_item d.list check.entry.clause literal w.item) }
 {
     if word_at(check.read.table, p) != CALL_KIND {
@@ -33,8 +33,8 @@ fn undeclared_item(
 
 // How many literals an item counts for: a word of a bracket counts for none.
 fn literals_at(table: &[u32], p: usize) -> usize
-    requires { (x : Item) × Has table.now p (item_words x) }
-    ensures { (x : Item) → Has table.now p (item_words x) → result ≡ literals_at x }
+    requires { (x : Item) × WordsAt table.now p (item_words x) }
+    ensures { (x : Item) → WordsAt table.now p (item_words x) → result ≡ literals_at x }
 {
     if LEFT_KIND <= word_at(table, p) {
         return 0;
@@ -42,7 +42,7 @@ fn literals_at(table: &[u32], p: usize) -> usize
     1
 }
 
-// The first call of a body that has no declaration: item after item, inside brackets too.
+/// Refusal 8 of the first call without declaration in a body whose `items` items stand from `p` on, inside brackets too; declaration `near` is tried first.
 pub fn undeclared_body(
     check: ClauseCheck<'_>,
     p: usize,
@@ -50,7 +50,7 @@ pub fn undeclared_body(
     near: usize,
 ) -> Result<(), Refusal>
     requires { BodyIn check.read p items }
-    ensures { (d : Stand check.entry.declarations) (w : BodyIn check.entry.read p items)
+    ensures { (d : DeclarationsIn check.entry.declarations) (w : BodyIn check.entry.read p items)
         → result ≡ checked_of (undeclared_body d.list check.entry.clause 1 w.body) }
 {
     let table = check.read.table;
@@ -64,25 +64,22 @@ pub fn undeclared_body(
     Ok(())
 }
 
-// The number of the declaration of a clause's head, of which `near` is tried first. It only says where to look first, so any number would do.
-// (`marks::sheets::head_declaration` searches so too; what it promises is over definitions of mode_sheets, which stands above.)
+// The number of the declaration of the head of the clause at `p`; `near`, which is tried first, where it has none. It only says where to look first, so any
+// number would do.
 fn head_near(check: ClauseCheck<'_>, p: usize, near: usize) -> usize
     requires { ClauseIn check.read p }
 {
     let head = p + CLAUSE_START;
-    if check.declarations.is_near(check.read, head, near) {
-        return near;
-    }
     check
         .declarations
-        .find_atom(check.read, head)
+        .find_near(check.read, head, near)
         .unwrap_or(near)
 }
 
-// The first of a clause's head and calls that has no declaration.
+// Refusal 8 of the clause at `p`: the first of its head and calls that has no declaration.
 fn undeclared_clause(check: ClauseCheck<'_>, p: usize, near: usize) -> Result<(), Refusal>
     requires { ClauseIn check.read p }
-    ensures { (d : Stand check.entry.declarations) (w : ClauseIn check.entry.read p) → result
+    ensures { (d : DeclarationsIn check.entry.declarations) (w : ClauseIn check.entry.read p) → result
         ≡ checked_of (undeclared_clause d.list check.entry.clause w.clause) }
 {
     let table = check.read.table;
@@ -93,15 +90,14 @@ fn undeclared_clause(check: ClauseCheck<'_>, p: usize, near: usize) -> Result<()
     undeclared_body(check, first, items, near)
 }
 
-// The first head or call of a sheet that has no declaration. `marks::clauses::clause_faults::clauses_fault` goes along clauses in this way too; see there.
-// (Declarations, table and number of clauses: as at `marks::sheets::check_sheet`.)
+/// Refusal 8 of the first head or call without declaration in a sheet, whose clauses stand in the table from place 0 on and have the numbers from 1 on.
 pub fn undeclared_clauses(
     declarations: Declarations<'_>,
     table: &[u32],
     clauses: usize,
 ) -> Result<(), Refusal>
     requires { ClausesAt declarations.text.now table.now 0 clauses }
-    ensures { (d : Stand declarations.entry) (w : ClausesAt declarations.entry.text.now table.now 0 clauses) → result
+    ensures { (d : DeclarationsIn declarations.entry) (w : ClausesAt declarations.entry.text.now table.now 0 clauses) → result
         ≡ checked_of (undeclared_clauses d.list 1 w.list) }
 {
     let mut at = 0;

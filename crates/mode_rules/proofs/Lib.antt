@@ -2,5 +2,5 @@ pub mod Terms
 pub mod Equations
 pub mod Growth
 pub mod Passes
-pub mod Cases
+pub mod CheckingCases
 pub mod JudgmentCases

@@ -5,10 +5,11 @@ use Rattle.syntax.specs.Terms.{Sheet, Goal}
 use Rattle.syntax.specs.Tokens.{spelling}
 use Rattle.syntax.specs.Verdicts.{Outcome, refused, accepted, sheet_of, goal_outcome, sheet_verdict}
 use Rattle.syntax.specs.declared.Text.{Text}
-use Rattle.syntax.specs.declared.Text.TheVariants.{Sheet as in_sheet, Goal as in_goal, Trace as in_trace, Neither}
+use Rattle.syntax.specs.declared.Text.TheVariants.{Sheet as in_sheet, Goal as in_goal, Trace as in_trace, Workings as in_workings, Neither}
 use Rattle.syntax.specs.declared.Refusal.{Refusal}
 use Rattle.syntax.specs.declared.Refusal.TheVariants.{Settings, TooLong, NoToken, Overlong, Misplaced, OverLimit, Repeated, Undeclared, OpenInput, OpenOutput}
 use Rattle.syntax.specs.declared.Refusal.TheVariants.{BadTrace, TraceOverLimit, SeenUndeclared, Unwritten}
+use Rattle.syntax.specs.declared.Refusal.TheVariants.{OutputTooLong, WardSettings, BadWorkings, LineTooLong}
 use Rattle.syntax.specs.Verdicts.{Verdict}
 use Rattle.syntax.specs.Verdicts.{Refused}
 use Rattle.mode_rules.specs.Modes.{sheet_fault, goal_fault}
@@ -77,12 +78,17 @@ name_span (BadTrace byte) = (0, 0)
 name_span TraceOverLimit = (0, 0)
 name_span SeenUndeclared = (0, 0)
 name_span (Unwritten byte) = (0, 0)
+name_span OutputTooLong = (0, 0)
+name_span WardSettings = (0, 0)
+name_span (BadWorkings byte) = (0, 0)
+name_span LineTooLong = (0, 0)
 
--- the text that a refusal speaks of, as far as a name can stand in it: a trace has none
+-- the text that a refusal speaks of, as far as a name can stand in it: a trace or workings have none
 abbrev pub text_at_fault : List ℕ → List ℕ → Text → List ℕ
 text_at_fault sheet goal in_sheet = sheet
 text_at_fault sheet goal in_goal = goal
 text_at_fault sheet goal in_trace = []
+text_at_fault sheet goal in_workings = []
 text_at_fault sheet goal Neither = []
 
 -- "as the part of the sheet or goal where it stands"

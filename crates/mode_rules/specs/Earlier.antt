@@ -12,6 +12,7 @@ use Rattle.syntax.specs.declared.Text.TheVariants.{Sheet as in_sheet, Goal as in
 use Rattle.syntax.specs.declared.Refusal.{Refusal}
 use Rattle.syntax.specs.declared.Refusal.TheVariants.{Settings, TooLong, NoToken, Overlong, Misplaced, OverLimit, Repeated, Undeclared, OpenInput, OpenOutput}
 use Rattle.syntax.specs.declared.Refusal.TheVariants.{BadTrace, TraceOverLimit, SeenUndeclared, Unwritten}
+use Rattle.syntax.specs.declared.Refusal.TheVariants.{OutputTooLong, WardSettings, BadWorkings, LineTooLong}
 use Rattle.syntax.specs.Verdicts.{Verdict}
 use Rattle.syntax.specs.Verdicts.{Accepted, Refused}
 use Rattle.mode_rules.specs.Modes.{Known, none_ground, everything, is_ground, open_unless, open_byte, equate, settle, marks_for, same_mark, list_of, if_marked}
@@ -120,6 +121,10 @@ without_byte (BadTrace byte) = BadTrace byte
 without_byte TraceOverLimit = TraceOverLimit
 without_byte SeenUndeclared = SeenUndeclared
 without_byte (Unwritten byte) = Unwritten byte
+without_byte OutputTooLong = OutputTooLong
+without_byte WardSettings = WardSettings
+without_byte (BadWorkings byte) = BadWorkings byte
+without_byte LineTooLong = LineTooLong
 
 abbrev pub fault_without : Option Refusal → Option Refusal
 fault_without none = none

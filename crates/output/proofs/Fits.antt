@@ -7,7 +7,7 @@ use Rattle.std.proofs.Math.Seq.{take-append_seam}
 use Rattle.std.proofs.lemmas.List.Edits.{sets, sets-eq}
 use Rattle.words.specs.Buffers.{fitted_length, fitted, number}
 use Rattle.words.proofs.BuffersLaws.{decimal-few}
-use Rattle.syntax.specs.declared.Kind.{Kind}
+use Rattle.syntax.specs.declared.RunEnd.{RunEnd}
 use Rattle.output.specs.Reports.{report_line, kind_word}
 
 by-test : (line out : List ℕ) (b : Bool) → leb (length line) (length out) ≡ b → take (cond b (length line) 0) (cond b (sets out 0 line) out) ≡ cond b line []
@@ -28,14 +28,14 @@ whole-by line false e few = let more : 64 < length line = leb-false (length line
 pub whole : (line : List ℕ) → length line ≤ 64 → cond (leb (length line) 64) line [] ≡ line
 whole line few = whole-by line (leb (length line) 64) refl few
 
-kind-few : (kind : Kind) → length (kind_word kind) ≤ 6
-kind-few Kind.Wanted = omega arith
-kind-few Kind.Done = omega arith
-kind-few Kind.Steps = omega arith
-kind-few Kind.Full = omega arith
-kind-few Kind.Deep = omega arith
+kind-few : (kind : RunEnd) → length (kind_word kind) ≤ 6
+kind-few RunEnd.Wanted = omega arith
+kind-few RunEnd.Done = omega arith
+kind-few RunEnd.Steps = omega arith
+kind-few RunEnd.Full = omega arith
+kind-few RunEnd.Deep = omega arith
 
-pub report-few : (kind : Kind) (answers steps : ℕ) → answers < 2 ^ 64 → steps < 2 ^ 64 → length (report_line kind answers steps) ≤ 64
+pub report-few : (kind : RunEnd) (answers steps : ℕ) → answers < 2 ^ 64 → steps < 2 ^ 64 → length (report_line kind answers steps) ≤ 64
 unfolding report_line
 report-few kind answers steps a s =
     let last : List ℕ = 10 ∷ [] in

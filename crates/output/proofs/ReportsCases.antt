@@ -3,7 +3,7 @@ use Prim.Native.Nat.{ℕ}
 use mathlib.Core.Path.{◌≡◌, refl}
 use mathlib.Core.List.{List, [], ◌∷◌}
 use Rattle.syntax.specs.Quote.{bytes}
-use Rattle.syntax.specs.declared.Kind.TheVariants.{Wanted, Done, Steps, Full, Deep}
+use Rattle.syntax.specs.declared.RunEnd.TheVariants.{Wanted, Done, Steps, Full, Deep}
 use Rattle.words.specs.Buffers.{digits, decimal}
 use Rattle.output.specs.Reports.{report_line}
 

@@ -5,6 +5,7 @@ use Rattle.syntax.specs.Words.{declaration_size, declared_words}
 use Rattle.syntax.specs.Terms.{Sheet, Declaration}
 use Rattle.syntax.specs.Verdicts.{Outcome, refused, accepted, sheet_verdict, entry_of}
 use Rattle.syntax.specs.Verdicts.{Verdict}
+use Rattle.words.specs.Tables.{entry_from}
 use Rattle.syntax.specs.declared.Entry.{Entry}
 use Rattle.output.specs.declared.listings.Listing.{Listing}
 
@@ -19,33 +20,22 @@ unfoldable pub declared_of : Outcome Sheet → List Declaration
 declared_of (refused r) = []
 declared_of (accepted sh) = sh.declarations
 
+-- how many entries a list with room for so many takes: "as far as the list goes", and none of a sheet that is refused
 unfoldable pub listed_of : Verdict → ℕ → ℕ
 listed_of (Ok counts) room = cond (leb counts.declarations room) counts.declarations room
 listed_of (Err fault) room = 0
 
--- the entry of the i-th declaration
-abbrev pub entry_from : List ℕ → ℕ → Entry
-entry_from words i = record {
-  at = get_or words (declaration_size * i) 0;
-  len = get_or words (declaration_size * i + 1) 0;
-  arguments = get_or words (declaration_size * i + 2) 0;
-}
-
 -- the entry of the i-th of n declarations, four words each
 abbrev pub entry_words : List ℕ → ℕ → ℕ → Option Entry
-entry_words declared n i = cond (leb n i) None (Some (record {
-  at = get_or declared (declaration_size * i) 0;
-  len = get_or declared (declaration_size * i + 1) 0;
-  arguments = get_or declared (declaration_size * i + 2) 0;
-}))
+entry_words declared n i = cond (leb n i) None (Some (entry_from declared i))
 
 -- the first k entries stored, one after another
 unfoldable pub pasted : (ℕ → Entry) → ℕ → List Entry → List Entry
 pasted f zero es = es
 pasted f (suc k) es = set (pasted f k es) k (f k)
 
--- what a listing promises
-pub record Lists (o : Outcome Sheet) (room : ℕ) (r : Listing) : Type 0 where
+-- what a listing promises for a list with room for so many: the verdict on the sheet, and entries that overlay the list
+pub record ListingOf (o : Outcome Sheet) (room : ℕ) (r : Listing) : Type 0 where
   pub is : r.verdict ≡ sheet_verdict o
   pub size : declared_words ≡ length r.words
   pub short : r.count ≤ declarations

@@ -5,7 +5,7 @@ use Rattle.syntax.specs.Verdicts.{Verdict}
 use Rattle.output.specs.Reports.{kind_number}
 use Rattle.output.specs.FaultsNumbers.{fault_numbers}
 
--- none
+-- the numbers of a fault where there is none
 abbrev pub no_fault : List ℕ
 no_fault = 0 ∷ 0 ∷ 0 ∷ 0 ∷ 0 ∷ 0 ∷ 0 ∷ 0 ∷ []
 

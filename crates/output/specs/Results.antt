@@ -18,9 +18,9 @@ bytes_of (Ok written) = written.bytes
 bytes_of (Err fault) = 0
 
 -- a refusal, with nothing written
-abbrev pub Stops : Text → Refusal → Result Written Fault → Type 0
-Stops t q u = (run_of u ≡ refused-by t q) × (bytes_of u ≡ 0)
+abbrev pub RunRefused : Text → Refusal → Result Written Fault → Type 0
+RunRefused t q u = (run_of u ≡ refused-by t q) × (bytes_of u ≡ 0)
 
 -- a report, with so many bytes written
-abbrev pub EndsWith : Report → ℕ → Result Written Fault → Type 0
-EndsWith x n u = (run_of u ≡ Ended-by x) × (bytes_of u ≡ n)
+abbrev pub RunEnded : Report → ℕ → Result Written Fault → Type 0
+RunEnded x n u = (run_of u ≡ Ended-by x) × (bytes_of u ≡ n)

@@ -1,5 +1,5 @@
-// A declaration as numbers in a lent slice, for callers in other languages: as many as fit, later ones as they were; and the version of these
-// lists of numbers.
+// A declaration as numbers in a lent slice, for callers in other languages: as many as fit, and the rest of the slice stays as it was. And the version of
+// these lists of numbers.
 
 ghost use Rattle.std.specs.Prelude.{◌≡◌, length};
 ghost use Rattle.std.proofs.lemmas.List.Edits.{sets};
@@ -8,17 +8,17 @@ ghost use Rattle.output.specs.EntriesNumbers.{version, entry_numbers};
 use crate::storing::put_numbers;
 use syntax::Entry;
 
-// The lists of numbers that this library gives.
+// The version of the lists of numbers that the library gives.
 const VERSION: usize = 2;
 
-// Their version.
+/// The version of the lists of numbers that the library gives, as `PILVAUST_VERSION` of include/pilvaust.h.
 pub fn version_number() -> usize
     ensures { result ≡ version }
 {
     VERSION
 }
 
-// A declaration; how many numbers it has is returned, 0 where there is none: the C interface returns it so.
+/// Writes a declaration as three numbers: byte and length of its name, number of arguments. Returns 3, and 0 where there is no declaration.
 #[tactic(auto, unfolding(crate::specs::EntriesNumbers::entry_numbers))]
 pub fn put_entry(declared: Option<Entry>, out: &mut [usize]) -> usize
     ensures is { result ≡ length (entry_numbers declared) }

@@ -6,15 +6,14 @@ ghost use Rattle.mode_rules.specs.Checking.{name_span, text_at_fault, fault_name
 
 use syntax::{Refusal, Text, Verdict};
 
-// Place and length of a name.
+/// First byte and length of a name in its text.
 #[derive(Clone, Copy)]
 pub struct Span {
     pub at: usize,
     pub len: usize,
 }
 
-// Where the name stands that a refusal hands back; an empty part for those that hand none back: the C interface has no Option, and the definition
-// tells it so.
+/// Where the name stands that a refusal hands back. For those that hand none back both numbers are 0, as C is told it.
 pub fn name_span(refusal: Refusal) -> Span
     ensures { (result.at ≡ (name_span refusal).0) × (result.len ≡ (name_span refusal).1) }
 {
@@ -41,12 +40,12 @@ fn part_at_fault<'a>(sheet: &'a [u8], goal: &'a [u8], text: Text, at: usize, len
     match text {
         Text::Sheet => part(sheet, at, len),
         Text::Goal => part(goal, at, len),
-        Text::Trace | Text::Neither => &sheet[..0],
+        Text::Trace | Text::Workings | Text::Neither => &sheet[..0],
     }
 }
 
-// The name that a verdict on a sheet, or on a goal over it, hands back: for refusals 8 to 10 the predicate's, as the part of
-// the sheet or goal where it stands; otherwise an empty part.
+/// The name that a verdict on a sheet, or on a goal over it, hands back: for refusals 8 to 10 the predicate's, as the part of
+/// the sheet or goal where it stands; otherwise an empty part.
 #[tactic(auto, unfolding(mode_rules::specs::Checking::fault_name))]
 pub fn fault_name<'a>(sheet: &'a [u8], goal: &'a [u8], verdict: Verdict) -> &'a [u8]
     ensures { result.now ≡ fault_name sheet.now goal.now verdict }

@@ -1,5 +1,5 @@
-// The answers of reading, checking and running as numbers in a lent slice, for callers in other languages: as many as fit, later ones as they
-// were. A declaration: `output::entries`.
+// The answers of reading, checking and running as numbers in a lent slice, for callers in other languages: as many as fit, and the rest of the slice stays
+// as it was. `output::entries` does the same of a declaration.
 
 ghost use Rattle.std.specs.Prelude.{◌≡◌, ◌++◌, ◌≤◌, length};
 ghost use Rattle.std.proofs.lemmas.List.Edits.{sets};
@@ -11,15 +11,16 @@ use crate::results::Written;
 use crate::storing::put_numbers;
 use syntax::{Fault, Verdict};
 
-// Which of a fault's numbers is the refusal's:
+// Which of a fault's numbers is the refusal's, counted from 0.
 const NUMBER: usize = 1;
 
-// how many a verdict's counts and a run's report behind it:
+// How many numbers a verdict's counts are: declarations and clauses.
 const COUNTS: usize = 2;
 
+// How many numbers a run's report is: kind of end, answers, steps, and the bytes written.
 const REPORT: usize = 4;
 
-// A fault and what follows it; the refusal's number is returned, 0 for none: the C interface returns it so, and knows a fault that is none by eight zeros.
+// Writes a fault and what follows it, and returns the refusal's number. No fault is eight zeros, and so the number 0.
 fn put_both(fault: [usize; FAULT], rest: &[usize], out: &mut [usize]) -> usize
     requires { length rest.now ≤ 4 }
     ensures is { result ≡ refusal_in (fault ++ rest.now) }
@@ -30,7 +31,7 @@ fn put_both(fault: [usize; FAULT], rest: &[usize], out: &mut [usize]) -> usize
     fault[NUMBER]
 }
 
-// A verdict; the number of its refusal is returned, 0 for none.
+/// Writes a verdict as ten numbers: its fault, then the counts of declarations and clauses. Returns the number of its refusal, 0 for none.
 #[tactic(auto, unfolding(crate::specs::Numbers::verdict_numbers))]
 pub fn put_verdict(verdict: Verdict, out: &mut [usize]) -> usize
     ensures is { result ≡ refusal_in (verdict_numbers verdict) }
@@ -42,7 +43,8 @@ pub fn put_verdict(verdict: Verdict, out: &mut [usize]) -> usize
     }
 }
 
-// The answer to a run that writes; returned as above.
+/// Writes the answer to a run as twelve numbers: its fault, then its kind of end, answers, steps and bytes written. Returns the number of its refusal, 0 for
+/// none.
 #[tactic(auto, unfolding(crate::specs::Numbers::run_numbers))]
 pub fn put_run(run: Result<Written, Fault>, out: &mut [usize]) -> usize
     ensures is { result ≡ refusal_in (run_numbers (run_of run) (bytes_of run)) }

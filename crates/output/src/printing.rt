@@ -1,6 +1,5 @@
 // Prints an answer as every program does, to any writer. After an error only a part may be written. The bytes are those of `output::lines` and
-// `output::reports`: a verdict is std's `Result`, for which only std may write a `Display`, and that of a report would have to stand in `syntax`, which knows
-// nothing of lines.
+// `output::reports`.
 
 ghost use Rattle.std.specs.Prelude.{OnOk};
 ghost use Rattle.std.specs.Io.KnownBytes.{Appends};
@@ -11,8 +10,8 @@ use std::io::{Result, Write};
 use syntax::{Report, Run, Verdict};
 use words::buffers::past_lines;
 
-// Prints the line of a verdict, with the name handed back if there is one. The words of a verdict take at most 118 bytes
-// and a name of a sheet or goal 31; with a longer name, that of no sheet, nothing is printed.
+/// Prints the line of a verdict, with the name handed back if there is one. The words of a verdict take at most 121 bytes
+/// and a name of a sheet or goal 31; with a longer name, that of no sheet, nothing is printed.
 pub fn print_line<W: Write>(out: &mut W, verdict: Verdict, name: &[u8]) -> Result<()>
     ensures { OnOk result (Appends (W.contents out.old) (W.contents out.new) (printed_line verdict name.now)) }
 {
@@ -21,7 +20,7 @@ pub fn print_line<W: Write>(out: &mut W, verdict: Verdict, name: &[u8]) -> Resul
     out.write_all(&line[..n])
 }
 
-// Prints so many lines of a text.
+/// Prints the first `lines` lines of a text; all of it where there are fewer.
 pub fn print_lines<W: Write>(out: &mut W, text: &[u8], lines: usize) -> Result<()>
     ensures { OnOk result (Appends (W.contents out.old) (W.contents out.new) (printed_lines text.now lines)) }
 {
@@ -29,7 +28,7 @@ pub fn print_lines<W: Write>(out: &mut W, text: &[u8], lines: usize) -> Result<(
     out.write_all(&text[..n])
 }
 
-// Prints the report of a run, the line that ends it. The line takes at most 53 bytes.
+/// Prints the report of a run, the line that ends it. The line takes at most 53 bytes.
 pub fn print_report<W: Write>(out: &mut W, report: Report) -> Result<()>
     ensures { OnOk result (Appends (W.contents out.old) (W.contents out.new) (report_line report.kind report.answers report.steps)) }
 {
@@ -38,7 +37,7 @@ pub fn print_report<W: Write>(out: &mut W, report: Report) -> Result<()>
     out.write_all(&line[..n])
 }
 
-// Prints what a run gave: the lines of its answers and its report; or the line of its refusal.
+/// Prints what a run gave: the lines of its answers and its report; or the line of its refusal.
 pub fn print_run<'a, W: Write>(
     out: &mut W,
     sheet: &'a [u8],

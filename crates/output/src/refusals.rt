@@ -6,7 +6,7 @@ ghost use Rattle.syntax.specs.Verdicts.{fault_of};
 
 use syntax::{Five, Refusal};
 
-// What a refusal has no number for is 0.
+// The five numbers of no refusal: "Unused places are 0."
 const ZEROS: Five = Five {
     number: 0,
     byte: 0,
@@ -33,8 +33,7 @@ fn at_byte(number: usize, byte: usize) -> Five
     }
 }
 
-// The five numbers that RULES gives a refusal: an enum's answers through a definition of numbers, a form asked for in REQUESTS. (No `From`: it
-// would have to stand beside both types, in `syntax`, which has no code. Over 40 lines, since `rt fmt` gives a line to each field that is named.)
+/// The five numbers that RULES gives a refusal. A definition gives them for each case, the form that REQUESTS, "The forms asked for", asks of an enum.
 pub fn numbers(refusal: Refusal) -> Five
     ensures { result ≡ numbers_of refusal }
 {
@@ -84,19 +83,23 @@ pub fn numbers(refusal: Refusal) -> Five
         Refusal::BadTrace(byte) => at_byte(13, byte),
         Refusal::TraceOverLimit => plain(14),
         Refusal::SeenUndeclared => plain(15),
+        Refusal::OutputTooLong => plain(11),
+        Refusal::WardSettings => plain(12),
         Refusal::Unwritten(byte) => at_byte(16, byte),
+        Refusal::BadWorkings(byte) => at_byte(17, byte),
+        Refusal::LineTooLong => plain(18),
     }
 }
 
-// Whether a text is longer than it may be: a sheet than `SHEET_BYTES`, a goal than `GOAL_BYTES`.
+/// Whether a text is longer than it may be: a sheet than `SHEET_BYTES`, a goal than `GOAL_BYTES`.
 pub fn is_too_long<const MOST: usize>(bytes: usize) -> bool
     ensures { result ≡ ltb MOST bytes }
 {
     MOST < bytes
 }
 
-// A fault of reading, 3 to 6, as a refusal. (The fault is its number here, as in the definition `fault_of`; the reader gives refusals at once, so
-// nothing in the library calls this.)
+/// The refusal of a fault of reading, told by its number, 3 to 6, and its byte: `fault_of` of `syntax`'s definitions as code. The parser gives refusals
+/// without it.
 pub fn fault_of(number: usize, byte: usize) -> Refusal
     ensures { result ≡ fault_of number byte }
 {

@@ -1,29 +1,27 @@
-// The line that ends a run, into a lent buffer. Its words are appended, and not a `Display`, which would have to
-// stand in `syntax`, that knows nothing of lines, and would need a slice to be a writer of `fmt`.
+// The line that ends a run, into a lent buffer.
 
 ghost use Rattle.std.specs.Prelude.{◌≡◌, ◌+◌, ◌≤◌};
-ghost use Rattle.words.specs.Buffers.{Put, fitted_length, fitted};
+ghost use Rattle.words.specs.Buffers.{Appended, fitted_length, fitted};
 ghost use Rattle.output.specs.Reports.{report_line, kind_number, kind_word};
 
-use syntax::{Kind, Report};
+use syntax::{Report, RunEnd};
 use words::buffers::{append, append_byte, append_number};
 
-// The number of a kind of end, as programs in C are told it. A `From<Kind>` would have to stand beside the type, in a crate that knows nothing of these
-// numbers.
-pub fn kind_number(kind: Kind) -> usize
+/// The number of a kind of end, as `PILVAUST_END_WANTED` and its neighbours of include/pilvaust.h.
+pub fn kind_number(kind: RunEnd) -> usize
     ensures { result ≡ kind_number kind }
 {
     match kind {
-        Kind::Wanted => 0,
-        Kind::Done => 1,
-        Kind::Steps => 2,
-        Kind::Full => 3,
-        Kind::Deep => 4,
+        RunEnd::Wanted => 0,
+        RunEnd::Done => 1,
+        RunEnd::Steps => 2,
+        RunEnd::Full => 3,
+        RunEnd::Deep => 4,
     }
 }
 
-// Writes the line that ends a run to the start of out and returns its length; where the whole line does not fit, writes nothing and returns 0. (No Option: a
-// caller prints the first so many bytes of out, which are none then.)
+/// Writes the line that ends a run to the start of `out` and returns its length. Where the whole line does not fit, it writes nothing and returns 0. Either
+/// way a caller may print the first so many bytes of `out`.
 pub fn put_report(report: Report, out: &mut [u8]) -> usize
     ensures length { result ≡ fitted_length (report_line report.kind report.answers report.steps) out.old }
     ensures text { out.new ≡ fitted (report_line report.kind report.answers report.steps) out.old }
@@ -40,7 +38,7 @@ pub fn put_report(report: Report, out: &mut [u8]) -> usize
 // The functions below append as those of `words::buffers` do.
 
 fn append_report(report: Report, out: &mut [u8]) -> usize
-    ensures { Put out.old 0 (report_line report.kind report.answers report.steps) out.new result }
+    ensures { Appended out.old 0 (report_line report.kind report.answers report.steps) out.new result }
 {
     let past_word = append(b"end ", out, 0);
     let past_kind = append_kind(report.kind, out, past_word);
@@ -49,16 +47,16 @@ fn append_report(report: Report, out: &mut [u8]) -> usize
     append_byte(b'\n', out, past_steps)
 }
 
-fn append_kind(kind: Kind, out: &mut [u8], at: usize) -> usize
+fn append_kind(kind: RunEnd, out: &mut [u8], at: usize) -> usize
     requires { at ≤ 4 }
-    ensures wrote { Put out.old at (kind_word kind) out.new result }
+    ensures wrote { Appended out.old at (kind_word kind) out.new result }
     ensures within { result ≤ at + 6 }
 {
     match kind {
-        Kind::Wanted => append(b"wanted", out, at),
-        Kind::Done => append(b"done", out, at),
-        Kind::Steps => append(b"steps", out, at),
-        Kind::Full => append(b"full", out, at),
-        Kind::Deep => append(b"deep", out, at),
+        RunEnd::Wanted => append(b"wanted", out, at),
+        RunEnd::Done => append(b"done", out, at),
+        RunEnd::Steps => append(b"steps", out, at),
+        RunEnd::Full => append(b"full", out, at),
+        RunEnd::Deep => append(b"deep", out, at),
     }
 }

@@ -10,7 +10,7 @@ use Rattle.syntax.specs.Reading.{Cursor, Read, ok, and_then, wrong_number, read_
 use Rattle.syntax.specs.Limits.{variables, sheet_bytes, brackets, literals}
 use Rattle.syntax.specs.Tokens.{comma_kind, stop_kind, end_kind}
 use Rattle.syntax.specs.Words.{node_words, literal_words, literal_length, body_words, body_length}
-use Rattle.syntax.specs.declared.State.{State}
+use Rattle.syntax.specs.declared.ParserState.{ParserState}
 use Rattle.syntax.specs.declared.Refusal.{Refusal}
 use Rattle.syntax.specs.declared.TokenKind.{TokenKind}
 use Rattle.parse.specs.Gives.{cursor_of, bytes_left, CursorInside, PastToken, RoomToRead, Gives, GivenWith, Refused, ItemCount, literal_form, body_form}
@@ -49,7 +49,7 @@ module _ (most : ℕ) (s : List ℕ) (end : TokenKind) (k : ℕ) (st : Cursor) w
   unfolding read_to read_body_with
   body-some z = let d : k ≡ suc (k - 1) = omega (arith, z) in ap (λ (j : ℕ). read_to most s end j st) d
 
-pub body-none : (most : ℕ) (s : List ℕ) (end : TokenKind) (k : ℕ) (st : State) (entry : List ℕ) (n : ℕ) (r : Refusal) → k ≡ 0 → Refused st (wrong_number st.token.kind) r
+pub body-none : (most : ℕ) (s : List ℕ) (end : TokenKind) (k : ℕ) (st : ParserState) (entry : List ℕ) (n : ℕ) (r : Refusal) → k ≡ 0 → Refused st (wrong_number st.token.kind) r
     → Gives body_form s st entry entry n (Err r) (read_to most s end k (cursor_of s entry st))
 unfolding read_to read_body_with
 body-none most s end k st entry n r z g =
@@ -57,7 +57,7 @@ body-none most s end k st entry n r z g =
     (refused-wrong body_form s st st entry entry n r (cursor_of s entry st) refl g refl)
 
 -- what was read of the first literal
-module _ (most : ℕ) (end : TokenKind) (k : ℕ) (s : List ℕ) (st : State) (entry : List ℕ) (n : ℕ) (mid : List ℕ) (z : k ≡ 0 → ⊥) where
+module _ (most : ℕ) (end : TokenKind) (k : ℕ) (s : List ℕ) (st : ParserState) (entry : List ℕ) (n : ℕ) (mid : List ℕ) (z : k ≡ 0 → ⊥) where
   abbrev whole : Read Body
   whole = read_to most s end k (cursor_of s entry st)
 
@@ -101,7 +101,7 @@ module _ (most : ℕ) (end : TokenKind) (k : ℕ) (s : List ℕ) (st : State) (e
     unfolding body_length
     items-done = refl
 
-    pub body-ready : (after : State) → r.state.token.kind ≡ comma_kind → PastToken s r.state after → length mid ≡ length entry → RoomToRead s after mid r.used 1
+    pub body-ready : (after : ParserState) → r.state.token.kind ≡ comma_kind → PastToken s r.state after → length mid ≡ length entry → RoomToRead s after mid r.used 1
     body-ready after a m l = behind-ready 0 literal_words literal_length body_words body_length also done words-also items-also words-done items-done s st entry mid n r read.0 read.2 1 ready after (comma-no_end a) m l
 
     pub items-few : r.items < 2 ^ 31
@@ -112,7 +112,7 @@ module _ (most : ℕ) (end : TokenKind) (k : ℕ) (s : List ℕ) (st : State) (e
         let short : length s ≤ sheet_bytes = ready.standing.short in
         omega arith
 
-    pub body-few : (exit : List ℕ) (after : State) (q : Parsed) → PastToken s r.state after
+    pub body-few : (exit : List ℕ) (after : ParserState) (q : Parsed) → PastToken s r.state after
         → Gives body_form s after mid exit r.used (Ok q) (read_to most s end (k - 1) (cursor_of s mid after)) → (q.items < 2 ^ 31)
         × (r.items < 2 ^ 31)
     body-few exit after q m h = (
@@ -122,13 +122,13 @@ module _ (most : ℕ) (end : TokenKind) (k : ℕ) (s : List ℕ) (st : State) (e
     )
 
     -- the whole, by the body behind a comma
-    with-more : (after : State) → r.state.token.kind ≡ comma_kind → PastToken s r.state after
+    with-more : (after : ParserState) → r.state.token.kind ≡ comma_kind → PastToken s r.state after
         → whole ≡ and_then (read_to most s end (k - 1) (cursor_of s mid after)) (λ b end. ok (also read.0 b) end)
     unfolding body_after
     with-more after a m = behind more (after_more end r.state.token.kind a)
         ∙ ap (λ (x : Cursor). and_then (read_to most s end (k - 1) x) (λ b end. ok (also read.0 b) end)) (sym (next_of mid m))
 
-    pub body-behind : (exit : List ℕ) (after : State) (q : Refusal) → r.state.token.kind ≡ comma_kind → PastToken s r.state after
+    pub body-behind : (exit : List ℕ) (after : ParserState) (q : Refusal) → r.state.token.kind ≡ comma_kind → PastToken s r.state after
         → Gives body_form s after mid exit r.used (Err q) (read_to most s end (k - 1) (cursor_of s mid after))
         → Gives body_form s st entry exit n (Err q) (read_to most s end k (cursor_of s entry st))
     body-behind exit after q a m h =
@@ -136,7 +136,7 @@ module _ (most : ℕ) (end : TokenKind) (k : ℕ) (s : List ℕ) (st : State) (e
         (more-fault 0 literal_words literal_length body_words body_length also done words-also items-also words-done items-done s st entry mid n r read.0
         read.2 exit after q (read_to most s end (k - 1) (cursor_of s mid after)) h n-in)
 
-    pub body_more : (exit : List ℕ) (after : State) (q p : Parsed) → r.state.token.kind ≡ comma_kind → PastToken s r.state after
+    pub body_more : (exit : List ℕ) (after : ParserState) (q p : Parsed) → r.state.token.kind ≡ comma_kind → PastToken s r.state after
         → Gives body_form s after mid exit r.used (Ok q) (read_to most s end (k - 1) (cursor_of s mid after)) → ItemCount q r.items p
         → Gives body_form s st entry exit n (Ok p) (read_to most s end k (cursor_of s entry st))
     body_more exit after q p a m h ep =
@@ -144,7 +144,7 @@ module _ (most : ℕ) (end : TokenKind) (k : ℕ) (s : List ℕ) (st : State) (e
         (one-more 0 literal_words literal_length body_words body_length also done words-also items-also words-done items-done s st entry mid n r read.0
         read.2 exit after q p (read_to most s end (k - 1) (cursor_of s mid after)) (comma-no_end a) m h ep)
 
-    pub body-last : (end ≡ end_kind → ⊥) → (after : State) → (r.state.token.kind ≡ comma_kind → ⊥) → r.state.token.kind ≡ end → PastToken s r.state after
+    pub body-last : (end ≡ end_kind → ⊥) → (after : ParserState) → (r.state.token.kind ≡ comma_kind → ⊥) → r.state.token.kind ≡ end → PastToken s r.state after
         → Gives body_form s st entry mid n (Ok (record { used = r.used; items = r.items; state = after })) (read_to most s end k (cursor_of s entry st))
     unfolding body_after
     body-last ends after f a m =
@@ -163,7 +163,7 @@ module _ (most : ℕ) (end : TokenKind) (k : ℕ) (s : List ℕ) (st : State) (e
         read.2 n-in))
 
 -- the whole body of a clause or goal
-pub whole-given : (s : List ℕ) (st : State) (entry exit : List ℕ) (n : ℕ) (r : Result Parsed Refusal)
+pub whole-given : (s : List ℕ) (st : ParserState) (entry exit : List ℕ) (n : ℕ) (r : Result Parsed Refusal)
     → Gives body_form s st entry exit n r (read_to brackets s stop_kind (suc literals) (cursor_of s entry st))
     → Gives body_form s st entry exit n r (read_body s (cursor_of s entry st))
 unfolding read_body

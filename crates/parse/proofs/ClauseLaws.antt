@@ -14,7 +14,7 @@ use Rattle.syntax.specs.Limits.{variables, brackets}
 use Rattle.syntax.specs.Spans.{names_from, met}
 use Rattle.syntax.proofs.Spans.{names-length, met-three}
 use Rattle.syntax.specs.Words.{node_words, atom_words, body_words, body_length, clause_words, clause_start}
-use Rattle.syntax.specs.declared.State.{State}
+use Rattle.syntax.specs.declared.ParserState.{ParserState}
 use Rattle.syntax.specs.declared.Refusal.{Refusal}
 use Rattle.syntax.specs.declared.TokenKind.{TokenKind}
 use Rattle.parse.specs.Gives.{cursor_of, state_onward, fresh, bytes_left, CursorInside, PastToken, RoomToRead, Faulted, Given, Gives, Refused, atom_form, body_form, clause_form}
@@ -42,9 +42,9 @@ neck-no_end e f = cc
 
 -- ---- the body of a clause
 
-module _ (s : List ℕ) (st past : State) (entry mid : List ℕ) (n used : ℕ) (ready : RoomToRead s st entry used 1) (low : n + clause_start ≤ used) (m : PastToken s st past) (long : length mid ≡ length entry) where
+module _ (s : List ℕ) (st past : ParserState) (entry mid : List ℕ) (n used : ℕ) (ready : RoomToRead s st entry used 1) (low : n + clause_start ≤ used) (m : PastToken s st past) (long : length mid ≡ length entry) where
   given-next : (r : Result Parsed Refusal) → Gives body_form s past entry mid used r (read_body s (cursor_of s entry past)) → Gives body_form s (state_onward s st) entry mid used r (read_body s (cursor_of s entry (state_onward s st)))
-  given-next r g = subst (λ (x : State). Gives body_form s x entry mid used r (read_body s (cursor_of s entry x))) m.is g
+  given-next r g = subst (λ (x : ParserState). Gives body_form s x entry mid used r (read_body s (cursor_of s entry x))) m.is g
 
   pub ruled-fault : (q : Refusal) → Gives body_form s past entry mid used (Err q) (read_body s (cursor_of s entry past)) → Ruled s st entry mid n used (Err q)
   ruled-fault q g = record { mid = mid; body = Err q; long = long; given = given-next (Err q) g; by = (refl, refl) }
@@ -67,16 +67,16 @@ module _ (s : List ℕ) (st past : State) (entry mid : List ℕ) (n used : ℕ) 
 
 -- ---- clauses
 
-module _ (s : List ℕ) (st start : State) (entry : List ℕ) (n : ℕ) (ready : RoomToRead s (fresh st) entry n 4) (name : st.token.kind ≡ name_kind) (eb : start ≡ fresh st) where
+module _ (s : List ℕ) (st start : ParserState) (entry : List ℕ) (n : ℕ) (ready : RoomToRead s (fresh st) entry n 4) (name : st.token.kind ≡ name_kind) (eb : start ≡ fresh st) where
   pub head-ready : RoomToRead s start entry (n + clause_start) 0 × (start.token.kind ≡ name_kind)
   head-ready =
       let room : n + node_words * bytes_left s (fresh st) + 4 + variables ≤ length entry = ready.room in (
-        subst⁻¹ (λ (x : State). RoomToRead s x entry (n + clause_start) 0) eb (record { standing = ready.standing; held = ready.held; room = omega arith; small = ready.small }),
-        subst⁻¹ (λ (x : State). x.token.kind ≡ name_kind) eb name,
+        subst⁻¹ (λ (x : ParserState). RoomToRead s x entry (n + clause_start) 0) eb (record { standing = ready.standing; held = ready.held; room = omega arith; small = ready.small }),
+        subst⁻¹ (λ (x : ParserState). x.token.kind ≡ name_kind) eb name,
       )
 
   given-fresh : (mid : List ℕ) (r : Result Parsed Refusal) → Gives atom_form s start entry mid (n + clause_start) r (read_atom brackets s (cursor_of s entry start)) → Gives atom_form s (fresh st) entry mid (n + clause_start) r (read_atom brackets s (cursor_of s entry (fresh st)))
-  given-fresh mid r g = subst (λ (x : State). Gives atom_form s x entry mid (n + clause_start) r (read_atom brackets s (cursor_of s entry x))) eb g
+  given-fresh mid r g = subst (λ (x : ParserState). Gives atom_form s x entry mid (n + clause_start) r (read_atom brackets s (cursor_of s entry x))) eb g
 
   pub clause-fault : (mid : List ℕ) (q : Refusal) → Gives atom_form s start entry mid (n + clause_start) (Err q) (read_atom brackets s (cursor_of s entry start)) → Gives clause_form s st entry mid n (Err q) (read_clause s (begin st.token))
   unfolding read_clause read_atom names_from
@@ -108,7 +108,7 @@ module _ (s : List ℕ) (st start : State) (entry : List ℕ) (n : ℕ) (ready :
     kept : take n mid ≡ take n entry
     kept = let room : n + node_words * bytes_left s st + 4 + variables ≤ length entry = ready.room in kept-before n (n + clause_start) (length (atom_words read.0)) entry mid (atom_words read.0) (omega arith) (omega arith) read.2.table_is
 
-    pub clause-fact : (past : State) (exit : List ℕ) → r.state.token.kind ≡ stop_kind → PastToken s r.state past → exit ≡ set (set (set mid n (r.used - n)) (n + 1) r.state.count) (n + 2) 0 → Gives clause_form s st entry exit n (Ok (record { used = r.used; items = 1; state = past })) (read_clause s (begin st.token))
+    pub clause-fact : (past : ParserState) (exit : List ℕ) → r.state.token.kind ≡ stop_kind → PastToken s r.state past → exit ≡ set (set (set mid n (r.used - n)) (n + 1) r.state.count) (n + 2) 0 → Gives clause_form s st entry exit n (Ok (record { used = r.used; items = 1; state = past })) (read_clause s (begin st.token))
     unfolding clause_after clause_words body_words body_length
     clause-fact past exit e m ex =
         let aw : List ℕ = atom_words read.0 in

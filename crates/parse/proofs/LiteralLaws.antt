@@ -20,7 +20,7 @@ use Rattle.syntax.specs.declared.Refusal.{Refusal}
 use Rattle.syntax.specs.declared.TokenKind.{TokenKind}
 use Rattle.syntax.specs.Reading.{Cursor, Read, fault, ok, and_then, next, wrong_number, read_term, read_atom, atom_at, read_right, after_atom, after_term, literal_with, read_atom_with, atom_with, read_list}
 use Rattle.syntax.specs.Words.{node_words, term_words, terms_words, atom_words, literal_words, literal_length, truth_kind, falsity_kind, call_kind, equation_kind}
-use Rattle.syntax.specs.declared.State.{State}
+use Rattle.syntax.specs.declared.ParserState.{ParserState}
 use Rattle.parse.specs.Gives.{cursor_of, state_onward, bytes_left, PastToken, RoomToRead, Faulted, Given, Gives, GivenWith, Refused, Form, form, one, term_form, atom_form, literal_form}
 use Rattle.parse.specs.declared.Parsed.{Parsed}
 use Rattle.parse.proofs.Reading.{refused-wrong, moved-onward, next_of, held_of, cursor-kept, held_kept}
@@ -51,13 +51,13 @@ front entry mid exit w n a h e f =
 equals-no_end : {k : TokenKind} → k ≡ equals_kind → k ≡ end_kind → ⊥
 equals-no_end e f = cc
 
-pub right_given : (most : ℕ) (s : List ℕ) (st past : State) (entry mid exit : List ℕ) (n used : ℕ) (r : Result Parsed Refusal) → PastToken s st past → mid ≡ set entry n equation_kind → Gives term_form s past mid exit used r (read_term most s (cursor_of s mid past)) → Gives term_form s (state_onward s st) (set entry n equation_kind) exit used r (read_term most s (cursor_of s (set entry n equation_kind) (state_onward s st)))
+pub right_given : (most : ℕ) (s : List ℕ) (st past : ParserState) (entry mid exit : List ℕ) (n used : ℕ) (r : Result Parsed Refusal) → PastToken s st past → mid ≡ set entry n equation_kind → Gives term_form s past mid exit used r (read_term most s (cursor_of s mid past)) → Gives term_form s (state_onward s st) (set entry n equation_kind) exit used r (read_term most s (cursor_of s (set entry n equation_kind) (state_onward s st)))
 right_given most s st past entry mid exit n used r m e g =
-    subst (λ (x : State). Gives term_form s x (set entry n equation_kind) exit used r (read_term most s (cursor_of s (set entry n equation_kind) x))) m.is
+    subst (λ (x : ParserState). Gives term_form s x (set entry n equation_kind) exit used r (read_term most s (cursor_of s (set entry n equation_kind) x))) m.is
     (subst (λ (x : List ℕ). Gives term_form s past x exit used r (read_term most s (cursor_of s x past))) e g)
 
 -- its first word is stored before the words of the variables
-pub right-asked : {s : List ℕ} {st past : State} {entry mid : List ℕ} {n used : ℕ} → RoomToRead s st entry used 0 → n < used → mid ≡ set entry n equation_kind → PastToken s st past → RoomToRead s past mid used 0
+pub right-asked : {s : List ℕ} {st past : ParserState} {entry mid : List ℕ} {n used : ℕ} → RoomToRead s st entry used 0 → n < used → mid ≡ set entry n equation_kind → PastToken s st past → RoomToRead s past mid used 0
 right-asked {s} {st} {past} {entry} {mid} {n} {used} ready low e m =
     let room : used + node_words * bytes_left s st + 0 + variables ≤ length entry = ready.room in
     let small : length entry < 2 ^ 31 = ready.small in
@@ -154,7 +154,7 @@ atom-named bytes_left s st end a e = subst (AllOk (λ (a : Atom). a.name ≡ spe
 
 -- ---- a literal by its first term
 
-module _ {s : List ℕ} {st : State} {entry : List ℕ} {n : ℕ} (ready : RoomToRead s st entry n 1) where
+module _ {s : List ℕ} {st : ParserState} {entry : List ℕ} {n : ℕ} (ready : RoomToRead s st entry n 1) where
   abbrev LiteralGives : List ℕ → Result Parsed Refusal → Read Literal → Type 0
   LiteralGives exit q d = Gives literal_form s st entry exit n q d
 
@@ -308,7 +308,7 @@ module _ {s : List ℕ} {st : State} {entry : List ℕ} {n : ℕ} (ready : RoomT
 
 -- ---- by what begins it
 
-module _ (most : ℕ) (s : List ℕ) (st : State) (entry exit : List ℕ) (n : ℕ) (r : Result Parsed Refusal) where
+module _ (most : ℕ) (s : List ℕ) (st : ParserState) (entry exit : List ℕ) (n : ℕ) (r : Result Parsed Refusal) where
   abbrev Begun : Bool → Type 0
   Begun named = Gives literal_form s st entry exit n r (literal_with most s (cursor_of s entry st) named)
 
@@ -328,7 +328,7 @@ number_small b name = small (b && same_name name true_name) (b && same_name name
     small false true = lit< tt
     small false false = lit< tt
 
-module _ (s : List ℕ) (st : State) (r : Parsed) (entry exit : List ℕ) (n number : ℕ) (en : number ≡ alone_number s st r n) (ex : exit ≡ set entry n number) where
+module _ (s : List ℕ) (st : ParserState) (r : Parsed) (entry exit : List ℕ) (n number : ℕ) (en : number ≡ alone_number s st r n) (ex : exit ≡ set entry n number) where
   pub alone-call : number ≡ 2 → Alone s st r entry exit n (record { used = r.used; items = 1; state = r.state })
   alone-call e = record {
     is = ap (λ (b : Bool). record { used = cond b r.used (n + 1); items = 1; state = r.state }) (sym (eq-eqb (alone_number s st r n) 2 (sym en ∙ e)));

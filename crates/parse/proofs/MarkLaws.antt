@@ -20,7 +20,7 @@ use Rattle.syntax.specs.Reading.{Cursor, begin, cursor_at, Read, fault, ok, and_
 use Rattle.words.specs.Signs.{number_of_sign}
 use Rattle.syntax.specs.Words.{mark_number, marks_number, declaration_words, mark_numbers, with_mark, declaration_size}
 use Rattle.syntax.proofs.Words.{mark-small as number_small}
-use Rattle.syntax.specs.declared.State.{State}
+use Rattle.syntax.specs.declared.ParserState.{ParserState}
 use Rattle.syntax.specs.declared.Refusal.{Refusal}
 use Rattle.syntax.specs.declared.TokenKind.{TokenKind}
 use Rattle.parse.specs.Gives.{bytes_left, CursorInside, PastToken, Refused}
@@ -62,12 +62,12 @@ four-most d k e = let p : mark_numbers ^ (k + d) ≡ mark_numbers ^ k * mark_num
 -- ---- lists of marks
 
 -- the reader past a token, where no variable is met
-pub next-begin : {s : List ℕ} {st r : State} → PastToken s st r → begin r.token ≡ next s (begin st.token)
+pub next-begin : {s : List ℕ} {st r : ParserState} → PastToken s st r → begin r.token ≡ next s (begin st.token)
 unfolding next cursor_at
-next-begin m = ap (λ (x : State). begin x.token) m.is
+next-begin m = ap (λ (x : ParserState). begin x.token) m.is
 
-module _ (s : List ℕ) (k : ℕ) (st : State) where
-  stopped-wrong : (x : State) (q : Refusal) → Refused x (wrong_number x.token.kind) q → MarksGive s st k (Err q) (wrong (begin x.token))
+module _ (s : List ℕ) (k : ℕ) (st : ParserState) where
+  stopped-wrong : (x : ParserState) (q : Refusal) → Refused x (wrong_number x.token.kind) q → MarksGive s st k (Err q) (wrong (begin x.token))
   unfolding wrong
   stopped-wrong x q f = f
 
@@ -96,7 +96,7 @@ module _ (s : List ℕ) (k : ℕ) (st : State) where
         (subst⁻¹ (λ (x : Sign). MarksGive s st k (Err r) (full (is_mark x) (begin st.token))) sign.1
         f)
 
-    module _ (nz : k ≡ 0 → ⊥) (after : State) (stands : CursorInside s st) (mv : PastToken s st after) where
+    module _ (nz : k ≡ 0 → ⊥) (after : ParserState) (stands : CursorInside s st) (mv : PastToken s st after) where
       behind : (x : After) → after_of close_kind after.token.kind ≡ x → read_marks s k (begin st.token) ≡ marks_after (λ st1. read_marks s (k - 1) st1) s sign.0 (begin after.token) x
       unfolding read_marks marks_with
       behind x e =
@@ -110,7 +110,7 @@ module _ (s : List ℕ) (k : ℕ) (st : State) where
       unfolding marks_after
       marks-wrong r f e g = subst⁻¹ (MarksGive s st k (Err r)) (behind neither (after-neither close_kind after.token.kind f e)) (stopped-wrong after r g)
 
-      pub marks-last : (past : State) → after.token.kind ≡ close_kind → PastToken s after past → MarksGive s st k (Ok (record { marks = m; items = 1; state = past })) (read_marks s k (begin st.token))
+      pub marks-last : (past : ParserState) → after.token.kind ≡ close_kind → PastToken s after past → MarksGive s st k (Ok (record { marks = m; items = 1; state = past })) (read_marks s k (begin st.token))
       unfolding marks_after marks_number
       marks-last past e p =
           let four : mark_numbers ^ k ≡ mark_numbers * mark_numbers ^ (k - 1) = four-more k nz in
@@ -123,7 +123,7 @@ module _ (s : List ℕ) (k : ℕ) (st : State) where
           (subst (λ (y : Cursor). Marked s st k (record { marks = m; items = 1; state = past }) (sign.0 ∷ []) y) (next-begin p)
           (record { state_is = refl; items_is = refl; used_is = omega arith; few = omega (arith, nz); small = omega arith; standing = p.standing; forward = omega arith }))
 
-      module _ (past : State) (eight : k ≤ arguments) (comma : after.token.kind ≡ comma_kind) (p : PastToken s after past) where
+      module _ (past : ParserState) (eight : k ≤ arguments) (comma : after.token.kind ≡ comma_kind) (p : PastToken s after past) where
         with-more : read_marks s k (begin st.token) ≡ and_then (read_marks s (k - 1) (begin past.token)) (λ ms end. ok (sign.0 ∷ ms) end)
         unfolding marks_after
         with-more = behind more (after_more close_kind after.token.kind comma) ∙ ap (λ (y : Cursor). and_then (read_marks s (k - 1) y) (λ ms end. ok (sign.0 ∷ ms) end)) (sym (next-begin p))
@@ -167,13 +167,13 @@ module _ (s : List ℕ) (k : ℕ) (st : State) where
               let b : after.token.at + after.token.len ≤ past.token.at = p.forward in
               let c : past.token.at ≤ q.state.token.at = g.forward in
               record {
-                state_is = ap (λ (y : State). begin y.token) e.0 ∙ g.state_is;
+                state_is = ap (λ (y : ParserState). begin y.token) e.0 ∙ g.state_is;
                 items_is = omega arith;
                 used_is = omega arith;
                 few = omega (arith, nz);
                 small = omega arith;
                 standing = subst⁻¹ (CursorInside s) e.0 g.standing;
-                forward = subst⁻¹ (λ (y : State). st.token.at ≤ y.token.at) e.0 (omega arith);
+                forward = subst⁻¹ (λ (y : ParserState). st.token.at ≤ y.token.at) e.0 (omega arith);
               }
 
           pub marks-more : (r : MarkList) → (r.state ≡ q.state) × ((r.marks ≡ with_mark m q.marks) × (r.items ≡ q.items + 1)) → MarksGive s st k (Ok r) (read_marks s k (begin st.token))
@@ -181,7 +181,7 @@ module _ (s : List ℕ) (k : ℕ) (st : State) where
 
 -- ---- the marks behind a name, or none
 
-some-by : (s : List ℕ) (st inner : State) (r : Result MarkList Refusal) (d : Read (List Mark)) → PastToken s st inner → MarksGive s inner arguments r d → MarksGive s st arguments r d
+some-by : (s : List ℕ) (st inner : ParserState) (r : Result MarkList Refusal) (d : Read (List Mark)) → PastToken s st inner → MarksGive s inner arguments r d → MarksGive s st arguments r d
 some-by s st inner (Err q) (fault f b) m g = g
 some-by s st inner (Err q) (ok ms after) m g = g
 some-by s st inner (Ok r) (fault f b) m g = g
@@ -190,13 +190,13 @@ some-by s st inner (Ok r) (ok ms after) m g =
     let b : inner.token.at ≤ r.state.token.at = g.forward in
     record { state_is = g.state_is; items_is = g.items_is; used_is = g.used_is; few = g.few; small = g.small; standing = g.standing; forward = omega arith }
 
-pub some-open : (s : List ℕ) (st inner : State) (r : Result MarkList Refusal) → st.token.kind ≡ open_kind → PastToken s st inner → MarksGive s inner arguments r (read_marks s arguments (begin inner.token)) → MarksGive s st arguments r (marks_read s (begin st.token) (same_kind st.token.kind open_kind))
+pub some-open : (s : List ℕ) (st inner : ParserState) (r : Result MarkList Refusal) → st.token.kind ≡ open_kind → PastToken s st inner → MarksGive s inner arguments r (read_marks s arguments (begin inner.token)) → MarksGive s st arguments r (marks_read s (begin st.token) (same_kind st.token.kind open_kind))
 unfolding marks_read
 some-open s st inner r e m g =
     subst⁻¹ (λ (b : Bool). MarksGive s st arguments r (marks_read s (begin st.token) b)) (eq-kind st.token.kind open_kind e)
     (subst (λ (y : Cursor). MarksGive s st arguments r (read_marks s arguments y)) (next-begin m) (some-by s st inner r (read_marks s arguments (begin inner.token)) m g))
 
-pub some-none : (s : List ℕ) (st : State) → CursorInside s st → (st.token.kind ≡ open_kind → ⊥) → MarksGive s st arguments (Ok (record { marks = 0; items = 0; state = st })) (marks_read s (begin st.token) (same_kind st.token.kind open_kind))
+pub some-none : (s : List ℕ) (st : ParserState) → CursorInside s st → (st.token.kind ≡ open_kind → ⊥) → MarksGive s st arguments (Ok (record { marks = 0; items = 0; state = st })) (marks_read s (begin st.token) (same_kind st.token.kind open_kind))
 unfolding marks_read marks_number
 some-none s st h e =
     subst⁻¹ (λ (b : Bool). MarksGive s st arguments (Ok (record { marks = 0; items = 0; state = st })) (marks_read s (begin st.token) b)) (ne_kind st.token.kind open_kind e)
@@ -214,7 +214,7 @@ four l n a b c d h =
     ∙ append_assoc (take n l) (a ∷ b ∷ c ∷ []) (d ∷ [])
 
 -- a token that cannot stand, or goes past a limit
-pub declaration-refused : (s : List ℕ) (from st : State) (entry : List ℕ) (n : ℕ) (q : Refusal) → Refused st (wrong_number st.token.kind) q → DeclarationGives s from entry entry n (Err q) (wrong (begin st.token))
+pub declaration-refused : (s : List ℕ) (from st : ParserState) (entry : List ℕ) (n : ℕ) (q : Refusal) → Refused st (wrong_number st.token.kind) q → DeclarationGives s from entry entry n (Err q) (wrong (begin st.token))
 unfolding wrong
 declaration-refused s from st entry n q f = record { is = f; kept = refl }
 
@@ -222,12 +222,12 @@ declaration-refused s from st entry n q f = record { is = f; kept = refl }
 stop-no_end : {k : TokenKind} → k ≡ stop_kind → k ≡ end_kind → ⊥
 stop-no_end e f = cc
 
-module _ (s : List ℕ) (st : State) (entry : List ℕ) (n : ℕ) (stands : CursorInside s st) where
+module _ (s : List ℕ) (st : ParserState) (entry : List ℕ) (n : ℕ) (stands : CursorInside s st) where
   pub declared-wrong : (r : Refusal) → (st.token.kind ≡ name_kind → ⊥) → Refused st (wrong_number st.token.kind) r → DeclarationGives s st entry entry n (Err r) (declaration_from s (begin st.token) (same_kind st.token.kind name_kind))
   unfolding declaration_from
   declared-wrong r e f = subst⁻¹ (λ (b : Bool). DeclarationGives s st entry entry n (Err r) (declaration_from s (begin st.token) b)) (ne_kind st.token.kind name_kind e) (declaration-refused s st st entry n r f)
 
-  module _ (past : State) (name : st.token.kind ≡ name_kind) (m : PastToken s st past) where
+  module _ (past : ParserState) (name : st.token.kind ≡ name_kind) (m : PastToken s st past) where
     abbrev ended : List Mark → Cursor → Read Declaration
     ended ms after = declaration_end s (declaration_of s (begin st.token) ms) after (same_kind after.token.kind stop_kind)
 
@@ -272,7 +272,7 @@ module _ (s : List ℕ) (st : State) (entry : List ℕ) (n : ℕ) (stands : Curs
           let small : marks_number read.0 + 1 ≤ mark_numbers ^ arguments = read.2.small in
           ((omega arith, (omega arith, (omega arith, omega arith))), omega arith)
 
-      pub declared-end : (end : State) (mid exit : List ℕ) → n + declaration_size ≤ length entry → r.state.token.kind ≡ stop_kind → PastToken s r.state end → mid ≡ set (set (set entry n st.token.at) (n + 1) st.token.len) (n + 2) r.items → exit ≡ set mid (n + 3) r.marks → DeclarationGives s st entry exit n (Ok (record { used = n + declaration_size; items = 1; state = end })) (declaration_from s (begin st.token) (same_kind st.token.kind name_kind))
+      pub declared-end : (end : ParserState) (mid exit : List ℕ) → n + declaration_size ≤ length entry → r.state.token.kind ≡ stop_kind → PastToken s r.state end → mid ≡ set (set (set entry n st.token.at) (n + 1) st.token.len) (n + 2) r.items → exit ≡ set mid (n + 3) r.marks → DeclarationGives s st entry exit n (Ok (record { used = n + declaration_size; items = 1; state = end })) (declaration_from s (begin st.token) (same_kind st.token.kind name_kind))
       unfolding declaration_end declaration_words
       declared-end end mid exit h e p em ex =
           let a : 0 < st.token.len = stands.some (name-no_end name) in
@@ -293,7 +293,7 @@ module _ (s : List ℕ) (st : State) (entry : List ℕ) (n : ℕ) (stands : Curs
           })
 
 -- a declaration from its :- on
-module _ (s : List ℕ) (st past : State) (entry : List ℕ) (n : ℕ) (m : PastToken s st past) where
+module _ (s : List ℕ) (st past : ParserState) (entry : List ℕ) (n : ℕ) (m : PastToken s st past) where
   by_mode : (b : Bool) → is_mode s (begin past.token) ≡ b → read_declaration s (begin st.token) ≡ after_neck s (begin past.token) b
   unfolding read_declaration
   by_mode b e = ap (λ (y : Cursor). after_neck s y (is_mode s y)) (sym (next-begin m)) ∙ ap (after_neck s (begin past.token)) e
@@ -307,7 +307,7 @@ module _ (s : List ℕ) (st past : State) (entry : List ℕ) (n : ℕ) (m : Past
     unfolding after_neck is_mode
     declaration-other r e f = subst⁻¹ (DeclarationGives s st entry entry n (Err r)) (by_mode false (simp (eq-kind past.token.kind name_kind name, sym eb ∙ e))) (declaration-refused s st past entry n r f)
 
-    further : (behind : State) (exit : List ℕ) (r : Result Parsed Refusal) (d : Read Declaration) → PastToken s past behind → DeclarationGives s behind entry exit n r d → DeclarationGives s st entry exit n r d
+    further : (behind : ParserState) (exit : List ℕ) (r : Result Parsed Refusal) (d : Read Declaration) → PastToken s past behind → DeclarationGives s behind entry exit n r d → DeclarationGives s st entry exit n r d
     further behind exit (Err q) (fault k x) p g = g
     further behind exit (Err q) (ok d after) p g = g
     further behind exit (Ok r) (fault k x) p g = g
@@ -317,7 +317,7 @@ module _ (s : List ℕ) (st past : State) (entry : List ℕ) (n : ℕ) (m : Past
         let less : bytes_left s r.state < bytes_left s behind = g.less in
         record { state_is = g.state_is; table_is = g.table_is; standing = g.standing; less = omega arith }
 
-    pub declaration-mode : (behind : State) (exit : List ℕ) (r : Result Parsed Refusal) → b ≡ true → PastToken s past behind → DeclarationGives s behind entry exit n r (declaration_from s (begin behind.token) (same_kind behind.token.kind name_kind)) → DeclarationGives s st entry exit n r (read_declaration s (begin st.token))
+    pub declaration-mode : (behind : ParserState) (exit : List ℕ) (r : Result Parsed Refusal) → b ≡ true → PastToken s past behind → DeclarationGives s behind entry exit n r (declaration_from s (begin behind.token) (same_kind behind.token.kind name_kind)) → DeclarationGives s st entry exit n r (read_declaration s (begin st.token))
     unfolding after_neck is_mode
     declaration-mode behind exit r e p g =
         subst⁻¹ (DeclarationGives s st entry exit n r) (by_mode true (simp (eq-kind past.token.kind name_kind name, sym eb ∙ e)) ∙ ap (λ (y : Cursor). declaration_from s y (same_kind y.token.kind name_kind)) (sym (next-begin p)))

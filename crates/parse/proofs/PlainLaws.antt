@@ -13,7 +13,7 @@ use Rattle.syntax.specs.Tokens.{same_kind, name_kind}
 use Rattle.syntax.specs.declared.Refusal.{Refusal}
 use Rattle.syntax.specs.Reading.{Cursor, Read, fault, ok, begins, start_of, literal_with, plain_with, read_plain}
 use Rattle.syntax.specs.Words.{node_words}
-use Rattle.syntax.specs.declared.State.{State}
+use Rattle.syntax.specs.declared.ParserState.{ParserState}
 use Rattle.syntax.specs.declared.Token.{Token}
 use Rattle.parse.specs.Gives.{cursor_of, bytes_left, RoomToRead, Refused, full_number, literal_form, Form, Gives}
 use Rattle.parse.specs.declared.Parsed.{Parsed}
@@ -23,10 +23,10 @@ use Rattle.parse.specs.Counted.{with_literal}
 -- ---- a literal that is no bracket
 
 -- the state with one literal more stands where it stood
-pub counted_ready : {s : List ℕ} {st more : State} {table : List ℕ} {n spare : ℕ} → RoomToRead s st table n spare → more ≡ with_literal st
+pub counted_ready : {s : List ℕ} {st more : ParserState} {table : List ℕ} {n spare : ℕ} → RoomToRead s st table n spare → more ≡ with_literal st
     → RoomToRead s more table n spare
 counted_ready {s} {st} {more} {table} {n} {spare} ready e =
-    subst⁻¹ (λ (x : State). RoomToRead s x table n spare) e (record {
+    subst⁻¹ (λ (x : ParserState). RoomToRead s x table n spare) e (record {
       standing = record {
         inside = ready.standing.inside;
         some = ready.standing.some;
@@ -40,7 +40,7 @@ counted_ready {s} {st} {more} {table} {n} {spare} ready e =
     })
 
 -- what is read from a state with the same token
-from-same : {A : Type 0} (f : Form A) (s : List ℕ) (st more : State) (entry exit : List ℕ) (n : ℕ) (r : Result Parsed Refusal) (d : Read A)
+from-same : {A : Type 0} (f : Form A) (s : List ℕ) (st more : ParserState) (entry exit : List ℕ) (n : ℕ) (r : Result Parsed Refusal) (d : Read A)
     → st.token ≡ more.token → Gives f s more entry exit n r d → Gives f s st entry exit n r d
 from-same f s st more entry exit n (Err q) (fault k b) e g = g
 from-same f s st more entry exit n (Err q) (ok a after) e g = g
@@ -56,7 +56,7 @@ from-same f s st more entry exit n (Ok r) (ok a after) e g =
       room = subst⁻¹ (λ (t : Token). length (f.words a) + node_words * bytes_left s r.state + f.spare ≤ node_words * (length s - t.at) + 1) e g.room;
     }
 
-module _ (most : ℕ) (s : List ℕ) (st : State) (entry : List ℕ) (n : ℕ) where
+module _ (most : ℕ) (s : List ℕ) (st : ParserState) (entry : List ℕ) (n : ℕ) where
   plain_by : (b : Bool) → ltb st.literals literals ≡ b → read_plain most s (cursor_of s entry st) ≡ plain_with most s (cursor_of s entry st) b
   unfolding read_plain
   plain_by b e = ap (plain_with most s (cursor_of s entry st)) e
@@ -64,7 +64,7 @@ module _ (most : ℕ) (s : List ℕ) (st : State) (entry : List ℕ) (n : ℕ) w
   counted-cursor : cursor_of s entry (with_literal st) ≡ record { token = st.token; names = (cursor_of s entry st).names; literals = suc st.literals }
   counted-cursor = ap (λ (k : ℕ). record { token = st.token; names = (cursor_of s entry st).names; literals = k }) (add-one st.literals)
 
-  pub plain-one : (r : Result Parsed Refusal) (exit : List ℕ) (more : State) → st.literals < literals → more ≡ with_literal st
+  pub plain-one : (r : Result Parsed Refusal) (exit : List ℕ) (more : ParserState) → st.literals < literals → more ≡ with_literal st
       → Gives literal_form s more entry exit n r (literal_with most s (cursor_of s entry more) (same_kind more.token.kind name_kind))
       → Gives literal_form s st entry exit n r (read_plain most s (cursor_of s entry st))
   unfolding plain_with
@@ -73,7 +73,7 @@ module _ (most : ℕ) (s : List ℕ) (st : State) (entry : List ℕ) (n : ℕ) w
       (subst (λ (c : Cursor). Gives literal_form s st entry exit n r (literal_with most s c (same_kind st.token.kind name_kind))) counted-cursor
       (from-same literal_form s st (with_literal st) entry exit n r
       (literal_with most s (cursor_of s entry (with_literal st)) (same_kind st.token.kind name_kind)) refl
-      (subst (λ (x : State). Gives literal_form s x entry exit n r (literal_with most s (cursor_of s entry x) (same_kind x.token.kind name_kind))) e g)))
+      (subst (λ (x : ParserState). Gives literal_form s x entry exit n r (literal_with most s (cursor_of s entry x) (same_kind x.token.kind name_kind))) e g)))
 
   pub plain-full : (r : Refusal) → literals ≤ st.literals → Refused st (full_number (begins (start_of st.token.kind)) st.token.kind) r
       → Gives literal_form s st entry entry n (Err r) (read_plain most s (cursor_of s entry st))

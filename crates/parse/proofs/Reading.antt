@@ -16,12 +16,12 @@ use Rattle.syntax.specs.Verdicts.{fault_of}
 use Rattle.syntax.specs.declared.Refusal.{Refusal}
 use Rattle.syntax.specs.declared.TokenKind.{TokenKind}
 use Rattle.syntax.specs.Limits.{sheet_bytes, word_bytes, variables}
-use Rattle.syntax.specs.Spans.{packed, spanned, SpanInside, names_from, met, Held}
+use Rattle.syntax.specs.Spans.{packed, spanned, SpanInside, names_from, met, SpansInside}
 use Rattle.syntax.proofs.Spans.{packed-inside, packed-spelt, names-length, names-new, held_new, met-three, met-new, met-length}
 use Rattle.syntax.specs.Reading.{Cursor, Read, ok, cursor_at, next, variable_number, is_anonymous, with_new, new_variable, old_variable, read_variable, wrong, wrong_number, beyond}
 use Rattle.syntax.specs.Terms.{Term, variable, same_name}
 use Rattle.syntax.specs.declared.Token.{Token}
-use Rattle.syntax.specs.declared.State.{State}
+use Rattle.syntax.specs.declared.ParserState.{ParserState}
 use Rattle.parse.specs.Gives.{cursor_of, state_onward, found, CursorInside, PastToken, FoundAs, MetAs, RoomToRead, Given, Gives, bytes_left, Refused, term_form, Form}
 use Rattle.syntax.specs.Words.{node_words, term_words}
 use Rattle.parse.specs.declared.Parsed.{Parsed}
@@ -29,7 +29,7 @@ use Rattle.lex.proofs.TokensLaws.{token-inside, token-at-from, token-some, token
 
 -- ---- the reader past a token
 
-pub moved : (s : List ℕ) (st : State) (t : Token) → CursorInside s st → t ≡ token_at s (st.token.at + st.token.len) → PastToken s st (record { token = t; count = st.count; literals = st.literals })
+pub moved : (s : List ℕ) (st : ParserState) (t : Token) → CursorInside s st → t ≡ token_at s (st.token.at + st.token.len) → PastToken s st (record { token = t; count = st.count; literals = st.literals })
 moved s st t h e = record {
   is = ap (λ (u : Token). record { token = u; count = st.count; literals = st.literals }) e;
   standing = record {
@@ -43,26 +43,26 @@ moved s st t h e = record {
 }
 
 -- the same of the state past the token
-pub moved-onward : (s : List ℕ) (st : State) → CursorInside s st → PastToken s st (state_onward s st)
+pub moved-onward : (s : List ℕ) (st : ParserState) → CursorInside s st → PastToken s st (state_onward s st)
 moved-onward s st h = moved s st (token_at s (st.token.at + st.token.len)) h refl
 
 -- the reader that it stands for
-pub next_of : {s : List ℕ} {st r : State} (table : List ℕ) → PastToken s st r → cursor_of s table r ≡ next s (cursor_of s table st)
+pub next_of : {s : List ℕ} {st r : ParserState} (table : List ℕ) → PastToken s st r → cursor_of s table r ≡ next s (cursor_of s table st)
 unfolding next cursor_at
 next_of {s} table m = ap (cursor_of s table) m.is
 
 -- the words of the variables met stay where a state has moved, and where only words before them were stored
-pub held_of : {s : List ℕ} {st r : State} {words : List ℕ} → PastToken s st r → Held s words st.count → Held s words r.count
-held_of {s} {st} {r} {words} m h = subst⁻¹ (λ (x : State). Held s words x.count) m.is h
+pub held_of : {s : List ℕ} {st r : ParserState} {words : List ℕ} → PastToken s st r → SpansInside s words st.count → SpansInside s words r.count
+held_of {s} {st} {r} {words} m h = subst⁻¹ (λ (x : ParserState). SpansInside s words x.count) m.is h
 
-pub cursor-kept : (s entry exit : List ℕ) (st : State) → met exit ≡ met entry → cursor_of s exit st ≡ cursor_of s entry st
+pub cursor-kept : (s entry exit : List ℕ) (st : ParserState) → met exit ≡ met entry → cursor_of s exit st ≡ cursor_of s entry st
 cursor-kept s entry exit st e = ap (λ (m : List ℕ). record { token = st.token; names = names_from s m 0 st.count; literals = st.literals }) e
 
-pub held_kept : {s a b : List ℕ} {k : ℕ} → b ≡ a → Held s a k → Held s b k
-held_kept {s} {k = k} e h = subst⁻¹ (λ (m : List ℕ). Held s m k) e h
+pub held_kept : {s a b : List ℕ} {k : ℕ} → b ≡ a → SpansInside s a k → SpansInside s b k
+held_kept {s} {k = k} e h = subst⁻¹ (λ (m : List ℕ). SpansInside s m k) e h
 
 -- there is room past a token too
-pub past-ready : {s : List ℕ} {st past : State} {table : List ℕ} {n spare : ℕ} → RoomToRead s st table n spare → PastToken s st past → RoomToRead s past table n spare
+pub past-ready : {s : List ℕ} {st past : ParserState} {table : List ℕ} {n spare : ℕ} → RoomToRead s st table n spare → PastToken s st past → RoomToRead s past table n spare
 past-ready {s} {st} {past} {table} {n} {spare} ready m =
     let room : n + node_words * bytes_left s st + spare + variables ≤ length table = ready.room in
     let forward : st.token.at + st.token.len ≤ past.token.at = m.forward in
@@ -87,7 +87,7 @@ module _ (s : List ℕ) (t : Token) (count : ℕ) (table : List ℕ) (from i w :
   word-is : w ≡ get_or (met table) i 0
   word-is = ew ∙ ap (λ (k : ℕ). get_or table (k + i) 0) ef ∙ get_d_drop (length table - variables) table i
 
-  pub span-inside : Held s (met table) count → SpanInside s w
+  pub span-inside : SpansInside s (met table) count → SpanInside s w
   span-inside held = subst⁻¹ (SpanInside s) word-is (held.inside i h)
 
   rest : List (List ℕ)
@@ -135,7 +135,7 @@ three l n a b c h =
     e2 : n + 2 ≡ suc (n + 1)
     e2 = omega arith
 
-pub leaf-given : (s : List ℕ) (st : State) (entry exit : List ℕ) (n what b : ℕ) (after : State) → RoomToRead s st entry n 0 → (st.token.kind ≡ end_kind → ⊥) → exit ≡ set (set (set entry n what) (n + 1) node_words) (n + 2) b → PastToken s st after → Given s st entry exit n (record { used = n + node_words; items = 1; state = after }) (what ∷ node_words ∷ b ∷ []) 1 (next s (cursor_of s entry st))
+pub leaf-given : (s : List ℕ) (st : ParserState) (entry exit : List ℕ) (n what b : ℕ) (after : ParserState) → RoomToRead s st entry n 0 → (st.token.kind ≡ end_kind → ⊥) → exit ≡ set (set (set entry n what) (n + 1) node_words) (n + 2) b → PastToken s st after → Given s st entry exit n (record { used = n + node_words; items = 1; state = after }) (what ∷ node_words ∷ b ∷ []) 1 (next s (cursor_of s entry st))
 leaf-given s st entry exit n what b after ready k e m =
     let some : 0 < st.token.len = ready.standing.some k in
     let inside : st.token.at + st.token.len ≤ length s = ready.standing.inside in
@@ -153,7 +153,7 @@ leaf-given s st entry exit n what b after ready k e m =
     }
 
 -- a token's node has room, and its place fits a word
-pub node-room : (s : List ℕ) (st : State) (table : List ℕ) (n : ℕ) → RoomToRead s st table n 0 → (st.token.kind ≡ end_kind → ⊥) → (n + node_words ≤ length table) × (st.token.at < 2 ^ 32)
+pub node-room : (s : List ℕ) (st : ParserState) (table : List ℕ) (n : ℕ) → RoomToRead s st table n 0 → (st.token.kind ≡ end_kind → ⊥) → (n + node_words ≤ length table) × (st.token.at < 2 ^ 32)
 node-room s st table n ready k =
     let some : 0 < st.token.len = ready.standing.some k in
     let inside : st.token.at + st.token.len ≤ length s = ready.standing.inside in
@@ -164,7 +164,7 @@ node-room s st table n ready k =
 -- ---- faults
 
 -- The fault of a reader that stands for the state.
-module _ {A : Type 0} (f : Form A) (s : List ℕ) (from st : State) (entry exit : List ℕ) (n : ℕ) (q : Refusal) (c : Cursor) (t : c.token ≡ st.token) where
+module _ {A : Type 0} (f : Form A) (s : List ℕ) (from st : ParserState) (entry exit : List ℕ) (n : ℕ) (q : Refusal) (c : Cursor) (t : c.token ≡ st.token) where
   refused-at : (k : TokenKind → ℕ) → Refused st (k st.token.kind) q → q ≡ fault_of (k c.token.kind) c.token.at
   refused-at k e = e ∙ ap (λ (x : Token). fault_of (k x.kind) x.at) (sym t)
 
@@ -193,7 +193,7 @@ pub new-stored : (table : List ℕ) (p w at len : ℕ) → w ≡ packed at len �
 new-stored table p w at len e = ap (set table p) e
 
 -- one variable more: the state and the table with its word
-module _ (s : List ℕ) (st new : State) (entry mid : List ℕ) (n : ℕ) (e : new ≡ record { token = st.token; count = st.count + 1; literals = st.literals }) (em : mid ≡ set entry (length entry - variables + st.count) (packed st.token.at st.token.len)) (h : st.count < variables) (k : st.token.kind ≡ variable_kind) (ready : RoomToRead s st entry n 0) where
+module _ (s : List ℕ) (st new : ParserState) (entry mid : List ℕ) (n : ℕ) (e : new ≡ record { token = st.token; count = st.count + 1; literals = st.literals }) (em : mid ≡ set entry (length entry - variables + st.count) (packed st.token.at st.token.len)) (h : st.count < variables) (k : st.token.kind ≡ variable_kind) (ready : RoomToRead s st entry n 0) where
   long : length mid ≡ length entry
   long = ap length em ∙ length-set entry (length entry - variables + st.count) (packed st.token.at st.token.len)
 
@@ -211,13 +211,13 @@ module _ (s : List ℕ) (st new : State) (entry mid : List ℕ) (n : ℕ) (e : n
       let room : n + node_words * bytes_left s st + 0 + variables ≤ length entry = table-room in
       let small : length entry < 2 ^ 31 = ready.small in
       let l : length mid ≡ length entry = long in (
-        subst⁻¹ (λ (x : State). RoomToRead s x mid n 0) e (record {
+        subst⁻¹ (λ (x : ParserState). RoomToRead s x mid n 0) e (record {
           standing = record { inside = ready.standing.inside; some = ready.standing.some; brief = ready.standing.brief; few = omega arith; short = ready.standing.short };
-          held = subst⁻¹ (λ (m : List ℕ). Held s m (st.count + 1)) met-is (held_new s (met entry) st.count (packed st.token.at st.token.len) count-in (packed-inside s st.token.at st.token.len ready.standing.inside) ready.held);
+          held = subst⁻¹ (λ (m : List ℕ). SpansInside s m (st.count + 1)) met-is (held_new s (met entry) st.count (packed st.token.at st.token.len) count-in (packed-inside s st.token.at st.token.len ready.standing.inside) ready.held);
           room = omega arith;
           small = omega arith;
         }),
-        (omega arith, subst⁻¹ (λ (x : State). x.token.kind ≡ end_kind → ⊥) e (not_end k)),
+        (omega arith, subst⁻¹ (λ (x : ParserState). x.token.kind ≡ end_kind → ⊥) e (not_end k)),
       )
 
   cursor-new : cursor_of s mid new ≡ with_new s (cursor_of s entry st)
@@ -236,7 +236,7 @@ module _ (s : List ℕ) (st new : State) (entry mid : List ℕ) (n : ℕ) (e : n
       let room : n + node_words * bytes_left s st + 0 + variables ≤ length entry = table-room in
       let c : Cursor = cursor_of s entry st in
       let count : length (names_from s (met entry) 0 st.count) ≡ st.count = names-length s (met entry) 0 st.count in
-      let token : new.token ≡ st.token = ap (λ (x : State). x.token) e in
+      let token : new.token ≡ st.token = ap (λ (x : ParserState). x.token) e in
       let words : st.count ∷ node_words ∷ new.token.at ∷ [] ≡ length (names_from s (met entry) 0 st.count) ∷ node_words ∷ st.token.at ∷ [] = ap₂ (λ (x : ℕ) (t : Token). x ∷ node_words ∷ t.at ∷ []) (sym count) token in
       let front : take n mid ≡ take n entry = ap (take n) em ∙ take-set-le n entry (length entry - variables + st.count) (packed st.token.at st.token.len) (omega arith) in
       let room' : node_words + node_words * bytes_left s r.state + 1 ≤ node_words * (length s - st.token.at) + 1 = subst (λ (t : Token). node_words + node_words * bytes_left s r.state + 1 ≤ node_words * (length s - t.at) + 1) token g.room in
@@ -251,12 +251,12 @@ module _ (s : List ℕ) (st new : State) (entry mid : List ℕ) (n : ℕ) (e : n
         room = room';
       })
 
-pub new-refused : (s : List ℕ) (st : State) (entry : List ℕ) (n : ℕ) (q : Refusal) → variables ≤ st.count → Refused st 6 q → Gives term_form s st entry entry n (Err q) (new_variable s (cursor_of s entry st))
+pub new-refused : (s : List ℕ) (st : ParserState) (entry : List ℕ) (n : ℕ) (q : Refusal) → variables ≤ st.count → Refused st 6 q → Gives term_form s st entry entry n (Err q) (new_variable s (cursor_of s entry st))
 new-refused s st entry n q h f =
     let count : length (names_from s (met entry) 0 st.count) ≡ st.count = names-length s (met entry) 0 st.count in
     subst⁻¹ (Gives term_form s st entry entry n (Err q)) (new-beyond s (cursor_of s entry st) (omega arith)) (refused-beyond term_form s st st entry entry n q (cursor_of s entry st) refl f refl)
 
-module _ (s : List ℕ) (st : State) (entry exit : List ℕ) (n : ℕ) where
+module _ (s : List ℕ) (st : ParserState) (entry exit : List ℕ) (n : ℕ) where
   by-name : Bool → Read Term
   by-name b = elim b as (λ _. Read Term) [ true ↦ new_variable s (cursor_of s entry st) | false ↦ old_variable s (cursor_of s entry st) (found s entry st) ]
 
@@ -309,7 +309,7 @@ module _ (s : List ℕ) (st : State) (entry exit : List ℕ) (n : ℕ) where
         by false e k = subst⁻¹ (Gives term_form s st entry exit n r) (read-by false e) (new-by (found s entry st) k)
 
 -- which variable the token at hand is
-module _ (s : List ℕ) (st : State) (b : Bool) (eb : b ≡ is_anonymous s st.token) (found : Option ℕ) where
+module _ (s : List ℕ) (st : ParserState) (b : Bool) (eb : b ≡ is_anonymous s st.token) (found : Option ℕ) where
   pub met-anonymous : b ≡ true → MetAs (is_anonymous s st.token) found st.count None
   met-anonymous e = subst (λ (u : Bool). MetAs u found st.count None) (sym e ∙ eb) refl
 

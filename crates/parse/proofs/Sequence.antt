@@ -7,7 +7,7 @@ use mathlib.Core.List.{List, [], ◌∷◌, ◌++◌, append_assoc}
 use lib.ListN.{length, set, take, length-take, length-set, length-append}
 use lib.Seq.{take-take, take-append-le, take-set-lt, set-append_left, take_all}
 use Rattle.syntax.specs.Reading.{Cursor, Read, fault, ok, and_then}
-use Rattle.syntax.specs.declared.State.{State}
+use Rattle.syntax.specs.declared.ParserState.{ParserState}
 use Rattle.std.specs.Prelude.{Ok, Err}
 use Rattle.syntax.specs.declared.Refusal.{Refusal}
 use Rattle.parse.specs.Gives.{cursor_of, GivenWith, Form, Gives}
@@ -57,13 +57,13 @@ header entry mid exit w n a b c h e f =
 
 module _ {A B : Type 0} (part : Form A) (whole : Form B) (s : List ℕ) where
   -- a fault of the part is the whole's
-  pub seq-fault : (from st : State) (entry exit : List ℕ) (n m : ℕ) (q : Refusal) (d : Read A) (k : A → Cursor → Read B) → n ≤ m → Gives part s st entry exit m (Err q) d → Gives whole s from entry exit n (Err q) (and_then d k)
+  pub seq-fault : (from st : ParserState) (entry exit : List ℕ) (n m : ℕ) (q : Refusal) (d : Read A) (k : A → Cursor → Read B) → n ≤ m → Gives part s st entry exit m (Err q) d → Gives whole s from entry exit n (Err q) (and_then d k)
   unfolding and_then
   seq-fault from st entry exit n m q (fault j b) k h g = record { is = g.is; kept = shorter n m entry exit h g.kept }
   seq-fault from st entry exit n m q (ok a after) k h g = absurd g
 
 module _ {A : Type 0} (f : Form A) (s : List ℕ) where
   -- otherwise it is what was read, with the reader that the code has
-  pub seq-ok : (st : State) (entry exit : List ℕ) (n : ℕ) (r : Parsed) (d : Read A) → Gives f s st entry exit n (Ok r) d → (a : A) × (d ≡ ok a (cursor_of s exit r.state)) × GivenWith f.spare s st entry exit n r (f.words a) (f.items a) (cursor_of s exit r.state)
+  pub seq-ok : (st : ParserState) (entry exit : List ℕ) (n : ℕ) (r : Parsed) (d : Read A) → Gives f s st entry exit n (Ok r) d → (a : A) × (d ≡ ok a (cursor_of s exit r.state)) × GivenWith f.spare s st entry exit n r (f.words a) (f.items a) (cursor_of s exit r.state)
   seq-ok st entry exit n r (fault k b) g = absurd g
   seq-ok st entry exit n r (ok a after) g = (a, ap (ok a) (sym g.state_is), subst⁻¹ (λ (x : Cursor). GivenWith f.spare s st entry exit n r (f.words a) (f.items a) x) g.state_is g)

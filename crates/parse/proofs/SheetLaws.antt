@@ -10,14 +10,14 @@ use borrow.Author.Tests.{eq-eqb, ne_eqb, eqb-false}
 use Rattle.std.specs.Prelude.{Result, Ok, Err}
 use Rattle.syntax.proofs.SameKind.{eq-kind, ne_kind}
 use Rattle.syntax.specs.Limits.{word_bytes, variables, sheet_bytes, declarations, clauses}
-use Rattle.syntax.specs.Spans.{names_from, met, Held}
+use Rattle.syntax.specs.Spans.{names_from, met, SpansInside}
 use Rattle.syntax.proofs.Spans.{held_none}
 use Rattle.syntax.specs.Tokens.{token_at, same_kind, variable_kind, name_kind, neck_kind, end_kind}
 use Rattle.syntax.specs.Terms.{Declaration, Clause, Sheet, Body}
 use Rattle.syntax.specs.Reading.{Cursor, begin, fresh, Read, fault, ok, and_then, wrong, wrong_number, beyond, read_declaration, read_clause, with_declaration, with_clause, item_with, item_of, no_item, a_declaration, a_clause, past_limit, misplaced, read_items, read_sheet, at_start, read_body, read_goal, goal_end}
 use Rattle.syntax.specs.Words.{node_words, declaration_words, declarations_words, clause_words, clauses_words, body_words, body_length, declaration_size, sheet_words}
 use Rattle.syntax.specs.Verdicts.{fault_of}
-use Rattle.syntax.specs.declared.State.{State}
+use Rattle.syntax.specs.declared.ParserState.{ParserState}
 use Rattle.syntax.specs.declared.Refusal.{Refusal}
 use Rattle.syntax.specs.declared.Token.{Token}
 use Rattle.lex.proofs.TokensLaws.{token-inside, token-some, token-word-short}
@@ -26,11 +26,11 @@ use Rattle.parse.specs.declared.Parsed.{Parsed}
 use Rattle.parse.proofs.Reading.{refused-beyond}
 use Rattle.parse.proofs.Sequence.{seq-ok}
 use Rattle.parse.specs.Marks.{DeclarationGiven, DeclarationGives}
-use Rattle.parse.specs.Sheets.{declaration_next, clause_next, items_before, Holds, Loading, ItemFault, Parses, GoalParses}
+use Rattle.parse.specs.Sheets.{declaration_next, clause_next, items_before, SheetInTables, Loading, ItemFault, Parses, GoalParses}
 
 -- ---- the first token
 
-pub started : (s : List ℕ) (t : Token) → length s ≤ sheet_bytes → t ≡ token_at s 0 → (◌≡◌ {A = State} (record { token = t; count = 0; literals = 0 }) (record { token = token_at s 0; count = 0; literals = 0 })) × CursorInside s (record { token = t; count = 0; literals = 0 })
+pub started : (s : List ℕ) (t : Token) → length s ≤ sheet_bytes → t ≡ token_at s 0 → (◌≡◌ {A = ParserState} (record { token = t; count = 0; literals = 0 }) (record { token = token_at s 0; count = 0; literals = 0 })) × CursorInside s (record { token = t; count = 0; literals = 0 })
 started s t h e = (
   ap (λ (x : Token). record { token = x; count = 0; literals = 0 }) e,
   record {
@@ -44,7 +44,7 @@ started s t h e = (
 
 -- ---- one more, with so many left
 
-module _ (s : List ℕ) (st : State) (entry exit : List ℕ) (n : ℕ) where
+module _ (s : List ℕ) (st : ParserState) (entry exit : List ℕ) (n : ℕ) where
   pub declaration-full : (r : Refusal) (ds : ℕ) → ds ≡ declarations → Refused st 6 r → DeclarationGives s st entry entry n (Err r) (declaration_next s (declarations - ds) (begin st.token))
   unfolding declaration_next beyond
   declaration-full r ds e f = subst⁻¹ (λ (b : Bool). DeclarationGives s st entry entry n (Err r) (elim b as (λ _. Read Declaration) [ true ↦ beyond (begin st.token) | false ↦ read_declaration s (begin st.token) ])) (eq-eqb (declarations - ds) 0 (omega arith)) (record { is = f; kept = refl })
@@ -147,20 +147,20 @@ clauses-more (c ∷ cl) x = ap (λ (w : List ℕ). clause_words c ++ w) (clauses
 
 -- ---- the loop
 
-pub loading-start : (s declared table : List ℕ) (st : State) → length s ≤ sheet_bytes → sheet_words ≤ length table → st ≡ record { token = token_at s 0; count = 0; literals = 0 } → CursorInside s st → Loading s declared table 0 0 0 st
+pub loading-start : (s declared table : List ℕ) (st : ParserState) → length s ≤ sheet_bytes → sheet_words ≤ length table → st ≡ record { token = token_at s 0; count = 0; literals = 0 } → CursorInside s st → Loading s declared table 0 0 0 st
 unfolding read_sheet declarations_words clauses_words at_start
 loading-start s declared table st short long e stands = record {
   dl = [];
   cl = [];
   holds = record { ds_is = refl; cs_is = refl; used_is = refl; declared_is = refl; table_is = refl };
-  whole = before-nothing (read_items s (declarations + clauses + 1) declarations clauses (at_start s)) ∙ ap (λ (x : State). items_before [] [] (read_items s (declarations + clauses + 1) declarations clauses (begin x.token))) (sym e);
+  whole = before-nothing (read_items s (declarations + clauses + 1) declarations clauses (at_start s)) ∙ ap (λ (x : ParserState). items_before [] [] (read_items s (declarations + clauses + 1) declarations clauses (begin x.token))) (sym e);
   ds_most = omega arith;
   cs_most = omega arith;
   standing = stands;
   room = omega arith;
 }
 
-module _ (s declared table : List ℕ) (ds cs used : ℕ) (st : State) (l : Loading s declared table ds cs used st) where
+module _ (s declared table : List ℕ) (ds cs used : ℕ) (st : ParserState) (l : Loading s declared table ds cs used st) where
   more : declarations + clauses + 1 - (ds + cs) ≡ suc (declarations + clauses + 1 - (ds + cs) - 1)
   more = let a : ds ≤ declarations = l.ds_most in let b : cs ≤ clauses = l.cs_most in omega arith
 
@@ -182,7 +182,7 @@ module _ (s declared table : List ℕ) (ds cs used : ℕ) (st : State) (l : Load
       (record { holds = l.holds; few = l.ds_most })
 
   -- a fault of the rest is the whole's
-  halt : (k b : ℕ) (q : Refusal) → read_sheet s ≡ fault k b → q ≡ fault_of k b → (declared2 table2 : List ℕ) → Holds declared2 table2 ds cs used l.dl l.cl → ItemFault s (declarations - ds) (clauses - cs) (begin st.token) k b → Parses s declared2 table2 (Err (record { refusal = q; before = record { declarations = ds; clauses = cs; used = used } })) (read_sheet s)
+  halt : (k b : ℕ) (q : Refusal) → read_sheet s ≡ fault k b → q ≡ fault_of k b → (declared2 table2 : List ℕ) → SheetInTables declared2 table2 ds cs used l.dl l.cl → ItemFault s (declarations - ds) (clauses - cs) (begin st.token) k b → Parses s declared2 table2 (Err (record { refusal = q; before = record { declarations = ds; clauses = cs; used = used } })) (read_sheet s)
   halt k b q e is declared2 table2 h faulty =
       subst⁻¹ (Parses s declared2 table2 (Err (record { refusal = q; before = record { declarations = ds; clauses = cs; used = used } }))) e
       (record { is = is; dl = l.dl; cl = l.cl; holds = h; from = begin st.token; whole = l.whole; faulty = faulty })
@@ -319,13 +319,13 @@ module _ (s declared table : List ℕ) (ds cs used : ℕ) (st : State) (l : Load
 
 -- ---- goals
 
-pub goal-ready : (s table : List ℕ) (st : State) → st ≡ record { token = token_at s 0; count = 0; literals = 0 } → CursorInside s st → node_words * length s + 1 + variables ≤ length table → length table < 2 ^ 31 → RoomToRead s st table 0 1
-goal-ready s table st e stands long small = record { standing = stands; held = subst⁻¹ (λ (x : State). Held s (met table) x.count) e (held_none s (met table)); room = omega arith; small = small }
+pub goal-ready : (s table : List ℕ) (st : ParserState) → st ≡ record { token = token_at s 0; count = 0; literals = 0 } → CursorInside s st → node_words * length s + 1 + variables ≤ length table → length table < 2 ^ 31 → RoomToRead s st table 0 1
+goal-ready s table st e stands long small = record { standing = stands; held = subst⁻¹ (λ (x : ParserState). SpansInside s (met table) x.count) e (held_none s (met table)); room = omega arith; small = small }
 
-module _ (s : List ℕ) (entry exit : List ℕ) (st : State) (is : st ≡ record { token = token_at s 0; count = 0; literals = 0 }) where
+module _ (s : List ℕ) (entry exit : List ℕ) (st : ParserState) (is : st ≡ record { token = token_at s 0; count = 0; literals = 0 }) where
   goal-whole : read_goal s ≡ and_then (read_body s (cursor_of s entry st)) (λ b after. goal_end s b after (same_kind after.token.kind end_kind))
   unfolding read_goal at_start names_from
-  goal-whole = ap (λ (x : State). and_then (read_body s (cursor_of s entry x)) (λ b after. goal_end s b after (same_kind after.token.kind end_kind))) (sym is)
+  goal-whole = ap (λ (x : ParserState). and_then (read_body s (cursor_of s entry x)) (λ b after. goal_end s b after (same_kind after.token.kind end_kind))) (sym is)
 
   goal-fault-by : (q : Refusal) (d : Read Body) → Gives body_form s st entry exit 0 (Err q) d → GoalParses s exit (Err q) (and_then d (λ b after. goal_end s b after (same_kind after.token.kind end_kind)))
   unfolding and_then

@@ -16,7 +16,7 @@ use Rattle.syntax.specs.Spans.{met}
 use Rattle.syntax.proofs.Spans.{met-kept}
 use Rattle.syntax.specs.Reading.{Cursor, Read, fault, ok, and_then, beyond, read_plain, read_literal, read_to, read_sides}
 use Rattle.syntax.specs.Words.{node_words, left_kind, right_kind, behind_kind, item_kinds, marker, literal_words, literal_length, body_words, body_length, side_words, side_length}
-use Rattle.syntax.specs.declared.State.{State}
+use Rattle.syntax.specs.declared.ParserState.{ParserState}
 use Rattle.syntax.specs.declared.Refusal.{Refusal}
 use Rattle.syntax.specs.declared.TokenKind.{TokenKind}
 use Rattle.parse.specs.Gives.{cursor_of, bytes_left, PastToken, RoomToRead, Given, Gives, GivenWith, Refused, literal_form, body_form, side_form}
@@ -43,7 +43,7 @@ bracket-is : (most : ℕ) (s : List ℕ) (c : Cursor) → same_kind c.token.kind
 unfolding read_literal read_to
 bracket-is most s c e = ap (λ (b : Bool). elim b as (λ _. Read Literal) [ true ↦ bracket_at most s c | false ↦ read_plain (suc most) s c ]) e
 
-module _ (most : ℕ) (s : List ℕ) (st : State) (entry exit : List ℕ) (n : ℕ) where
+module _ (most : ℕ) (s : List ℕ) (st : ParserState) (entry exit : List ℕ) (n : ℕ) where
   pub literal-plain : (r : Result Parsed Refusal) → (st.token.kind ≡ open_kind → ⊥) → Gives literal_form s st entry exit n r (read_plain most s (cursor_of s entry st))
       → Gives literal_form s st entry exit n r (read_literal most s (cursor_of s entry st))
   literal-plain r e g = subst⁻¹ (Gives literal_form s st entry exit n r)
@@ -74,7 +74,7 @@ no_end = ((λ e. cc), ((λ e. cc), (λ e. cc)))
 pub stored : (entry exit : List ℕ) (n w v : ℕ) → exit ≡ set entry n w → w ≡ v → exit ≡ set entry n v
 stored entry exit n w v e q = e ∙ ap (set entry n) q
 
-module _ (most : ℕ) (end : TokenKind) (kind : ℕ) {s : List ℕ} {st : State} {entry : List ℕ} {n : ℕ} (ready : RoomToRead s st entry n 2) (low : kind < item_kinds) where
+module _ (most : ℕ) (end : TokenKind) (kind : ℕ) {s : List ℕ} {st : ParserState} {entry : List ℕ} {n : ℕ} (ready : RoomToRead s st entry n 2) (low : kind < item_kinds) where
   side-in : n + 1 ≤ length entry
   side-in = let room : n + node_words * bytes_left s st + 2 + variables ≤ length entry = ready.room in omega arith
 
@@ -140,7 +140,7 @@ module _ (most : ℕ) (end : TokenKind) (kind : ℕ) {s : List ℕ} {st : State}
 
 -- ---- a bracket
 
-module _ (most : ℕ) {s : List ℕ} {st past : State} {entry : List ℕ} {n : ℕ} (ready : RoomToRead s st entry n 1) (opens : st.token.kind ≡ open_kind)
+module _ (most : ℕ) {s : List ℕ} {st past : ParserState} {entry : List ℕ} {n : ℕ} (ready : RoomToRead s st entry n 1) (opens : st.token.kind ≡ open_kind)
     (m : PastToken s st past) where
   abbrev right-of : Body → Cursor → Read Literal
   right-of y after = and_then (read_side most s close_kind after) (λ z end. ok (either y z) end)

@@ -15,9 +15,9 @@ use Rattle.syntax.proofs.Numerals.{trimmed-short}
 use Rattle.syntax.specs.Reading.{Cursor, numeral_at, spelt, Read, fault, ok, and_then, next, wrong_number, beyond, full, read_variable, read_term, read_term_with, term_with, read_atom, read_atom_with, atom_with, atom_at, read_list, read_arguments, arguments_after, start_of, begins, after_of, After, more, last, neither, Start, a_variable, a_numeral, a_name, nothing}
 use Rattle.syntax.specs.Words.{node_words, term_words, terms_words, atom_words, functor}
 use Rattle.syntax.specs.Limits.{sheet_bytes, variables, arguments}
-use Rattle.syntax.specs.Spans.{met, Held}
+use Rattle.syntax.specs.Spans.{met, SpansInside}
 use Rattle.syntax.proofs.Spans.{met-three}
-use Rattle.syntax.specs.declared.State.{State}
+use Rattle.syntax.specs.declared.ParserState.{ParserState}
 use Rattle.syntax.specs.declared.Refusal.{Refusal}
 use Rattle.syntax.specs.declared.TokenKind.{TokenKind}
 use Rattle.parse.specs.Gives.{cursor_of, bytes_left, CursorInside, PastToken, RoomToRead, Given, Gives, GivenWith, Refused, ItemCount, full_number, one, term_form, terms_form, atom_form, Form, form}
@@ -73,20 +73,20 @@ pub close-no_comma : {k : TokenKind} → k ≡ close_kind → k ≡ comma_kind �
 close-no_comma e f = cc
 
 -- a name's first word fits
-pub name-fits : (s : List ℕ) (st : State) (table : List ℕ) (n : ℕ) → RoomToRead s st table n 0 → functor 0 st.token.len < 2 ^ 32
+pub name-fits : (s : List ℕ) (st : ParserState) (table : List ℕ) (n : ℕ) → RoomToRead s st table n 0 → functor 0 st.token.len < 2 ^ 32
 name-fits s st table n ready =
     let inside : st.token.at + st.token.len ≤ length s = ready.standing.inside in
     let short : length s ≤ sheet_bytes = ready.standing.short in
     omega arith
 
 -- what `leaf` asks for a name
-pub leaf-asked : (s : List ℕ) (st : State) (table : List ℕ) (n what : ℕ) → RoomToRead s st table n 0 → st.token.kind ≡ name_kind → what ≡ functor 0 st.token.len → RoomToRead s st table n 0 × ((what < 2 ^ 32) × (st.token.kind ≡ end_kind → ⊥))
+pub leaf-asked : (s : List ℕ) (st : ParserState) (table : List ℕ) (n what : ℕ) → RoomToRead s st table n 0 → st.token.kind ≡ name_kind → what ≡ functor 0 st.token.len → RoomToRead s st table n 0 × ((what < 2 ^ 32) × (st.token.kind ≡ end_kind → ⊥))
 leaf-asked s st table n what ready k e = (ready, (omega (arith, name-fits s st table n ready), λ q. name-no_end k q))
 
 -- ---- numerals
 
 -- the byte of the first digit kept, and how many digits are kept
-module _ (s : List ℕ) (st : State) (table : List ℕ) (n p : ℕ) (ready : RoomToRead s st table n 0) (e : p ≡ st.token.at + dropped (spelling s st.token.at st.token.len)) where
+module _ (s : List ℕ) (st : ParserState) (table : List ℕ) (n p : ℕ) (ready : RoomToRead s st table n 0) (e : p ≡ st.token.at + dropped (spelling s st.token.at st.token.len)) where
   abbrev kept : ℕ
   kept = st.token.at + st.token.len - p
 
@@ -115,7 +115,7 @@ numeral-words s st p what inside e is =
     let bytes_left : what ≡ functor 0 (length (trimmed (spelt s st))) = omega (arith, long, less, e, is) in
     ap₂ (λ (k b : ℕ). k ∷ node_words ∷ b ∷ []) bytes_left e
 
-pub numeral-given : (s : List ℕ) (st : State) (entry exit : List ℕ) (n p what : ℕ) (r : Parsed) → RoomToRead s st entry n 0 → p ≡ st.token.at + dropped (spelling s st.token.at st.token.len) → what ≡ functor 0 (st.token.at + st.token.len - p)
+pub numeral-given : (s : List ℕ) (st : ParserState) (entry exit : List ℕ) (n p what : ℕ) (r : Parsed) → RoomToRead s st entry n 0 → p ≡ st.token.at + dropped (spelling s st.token.at st.token.len) → what ≡ functor 0 (st.token.at + st.token.len - p)
     → Given s st entry exit n r (what ∷ node_words ∷ p ∷ []) 1 (next s (cursor_of s entry st)) → Given s st entry exit n r (term_words (term_of (numeral_at s (cursor_of s entry st)))) 1 (next s (cursor_of s entry st))
 numeral-given s st entry exit n p what r ready e is g =
     subst (λ (w : List ℕ). Given s st entry exit n r w 1 (next s (cursor_of s entry st))) (numeral-words s (cursor_of s entry st) p what ready.standing.inside e is) g
@@ -138,21 +138,21 @@ module _ (most : ℕ) (s : List ℕ) (st : Cursor) where
       let d : most ≡ suc (most - 1) = omega (arith, z) in
       ap (λ (l : ℕ). read_list l s past) d ∙ ap (read_arguments (λ x. read_term (most - 1) s x) s arguments) (sym e)
 
-module _ (most : ℕ) (s : List ℕ) (st : State) where
+module _ (most : ℕ) (s : List ℕ) (st : ParserState) where
   module _ (entry : List ℕ) (n : ℕ) (ready : RoomToRead s st entry n 0) where
-    pub atom-bare : (r : Parsed) (exit : List ℕ) (past : State) (what : ℕ) → PastToken s st past → (past.token.kind ≡ open_kind → ⊥) → what ≡ functor 0 st.token.len
+    pub atom-bare : (r : Parsed) (exit : List ℕ) (past : ParserState) (what : ℕ) → PastToken s st past → (past.token.kind ≡ open_kind → ⊥) → what ≡ functor 0 st.token.len
         → Given s st entry exit n r (what ∷ node_words ∷ st.token.at ∷ []) 1 (next s (cursor_of s entry st)) → Gives atom_form s st entry exit n (Ok r) (read_atom most s (cursor_of s entry st))
     atom-bare r exit past what m k is g =
         subst⁻¹ (Gives atom_form s st entry exit n (Ok r)) (atom-alone most s (cursor_of s entry st) (cursor_of s entry past) (next_of entry m) k)
         (subst (λ (w : List ℕ). Given s st entry exit n r w 1 (next s (cursor_of s entry st))) (leaf-words s (cursor_of s entry st) what ready.standing.inside is) g)
 
-    pub atom-deep : (r : Refusal) (past : State) → PastToken s st past → past.token.kind ≡ open_kind → most ≡ 0 → Refused past 6 r → Gives atom_form s st entry entry n (Err r) (read_atom most s (cursor_of s entry st))
+    pub atom-deep : (r : Refusal) (past : ParserState) → PastToken s st past → past.token.kind ≡ open_kind → most ≡ 0 → Refused past 6 r → Gives atom_form s st entry entry n (Err r) (read_atom most s (cursor_of s entry st))
     unfolding read_list and_then beyond
     atom-deep r past m k z f =
         subst⁻¹ (Gives atom_form s st entry entry n (Err r)) (atom-open most s (cursor_of s entry st) (cursor_of s entry past) (next_of entry m) k ∙ ap (λ (l : ℕ). and_then (read_list l s (cursor_of s entry past)) (λ ts after. ok (atom_at s (cursor_of s entry st) ts) after)) z)
         (refused-beyond atom_form s st past entry entry n r (cursor_of s entry past) refl f refl)
 
-  module _ (entry exit mid : List ℕ) (n : ℕ) (past inner : State) (ready : RoomToRead s st entry n 0) (name : st.token.kind ≡ name_kind) (m : PastToken s st past) (k : past.token.kind ≡ open_kind) (z : most ≡ 0 → ⊥) (m' : PastToken s past inner) where
+  module _ (entry exit mid : List ℕ) (n : ℕ) (past inner : ParserState) (ready : RoomToRead s st entry n 0) (name : st.token.kind ≡ name_kind) (m : PastToken s st past) (k : past.token.kind ≡ open_kind) (z : most ≡ 0 → ⊥) (m' : PastToken s past inner) where
     whole : read_atom most s (cursor_of s entry st) ≡ and_then (read_arguments (λ x. read_term (most - 1) s x) s arguments (cursor_of s entry inner)) (λ ts after. ok (atom_at s (cursor_of s entry st) ts) after)
     whole = atom-open most s (cursor_of s entry st) (cursor_of s entry past) (next_of entry m) k ∙ ap (λ (d : Read Terms). and_then d (λ ts after. ok (atom_at s (cursor_of s entry st) ts) after)) (list-down most s (cursor_of s entry st) (cursor_of s entry past) (cursor_of s entry inner) z (next_of entry m'))
 
@@ -227,7 +227,7 @@ module _ (most : ℕ) (s : List ℕ) (st : Cursor) where
   unfolding read_term read_term_with
   term-by x e = ap (term_with (λ st1. read_list most s st1) s st) e
 
-module _ (most : ℕ) (s : List ℕ) (st : State) where
+module _ (most : ℕ) (s : List ℕ) (st : ParserState) where
   module _ (entry exit : List ℕ) (n : ℕ) where
     pub term-variable : (r : Result Parsed Refusal) → st.token.kind ≡ variable_kind → Gives term_form s st entry exit n r (read_variable s (cursor_of s entry st)) → Gives term_form s st entry exit n r (read_term most s (cursor_of s entry st))
     unfolding term_with
@@ -262,7 +262,7 @@ module _ (most : ℕ) (s : List ℕ) (st : State) where
 -- ---- lists
 
 -- a list or body that is full
-module _ {A : Type 0} (f : Form A) (s : List ℕ) (from st : State) (entry : List ℕ) (n : ℕ) (r : Refusal) (c : Cursor) (t : c.token ≡ st.token) where
+module _ {A : Type 0} (f : Form A) (s : List ℕ) (from st : ParserState) (entry : List ℕ) (n : ℕ) (r : Refusal) (c : Cursor) (t : c.token ≡ st.token) where
   full_by : (b : Bool) → Refused st (full_number b st.token.kind) r → Gives f s from entry entry n (Err r) (full b c)
   unfolding full
   full_by true g = refused-beyond f s from st entry entry n r c t g refl
@@ -272,16 +272,16 @@ module _ {A : Type 0} (f : Form A) (s : List ℕ) (from st : State) (entry : Lis
   list_full g = full_by (begins (start_of st.token.kind)) g
 
 -- One of a list was read; a list behind it is read by `rest`. The lists are `Terms` or a body, made by `put` from a thing and a list.
-module _ {A L : Type 0} (over : ℕ) (wa : A → List ℕ) (ia : A → ℕ) (wl : L → List ℕ) (il : L → ℕ) (put : A → L → L) (empty : L) (words-put : (a : A) (l : L) → wl (put a l) ≡ wa a ++ wl l) (items-put : (a : A) (l : L) → il (put a l) ≡ ia a + il l) (words-empty : wl empty ≡ []) (items-empty : il empty ≡ 0) (s : List ℕ) (st : State) (entry mid : List ℕ) (n : ℕ) (r : Parsed) (a : A) (g : GivenWith over s st entry mid n r (wa a) (ia a) (cursor_of s mid r.state)) where
+module _ {A L : Type 0} (over : ℕ) (wa : A → List ℕ) (ia : A → ℕ) (wl : L → List ℕ) (il : L → ℕ) (put : A → L → L) (empty : L) (words-put : (a : A) (l : L) → wl (put a l) ≡ wa a ++ wl l) (items-put : (a : A) (l : L) → il (put a l) ≡ ia a + il l) (words-empty : wl empty ≡ []) (items-empty : il empty ≡ 0) (s : List ℕ) (st : ParserState) (entry mid : List ℕ) (n : ℕ) (r : Parsed) (a : A) (g : GivenWith over s st entry mid n r (wa a) (ia a) (cursor_of s mid r.state)) where
   -- the token behind it takes a byte
-  past-less : (after : State) → (r.state.token.kind ≡ end_kind → ⊥) → PastToken s r.state after → node_words + node_words * bytes_left s after ≤ node_words * bytes_left s r.state
+  past-less : (after : ParserState) → (r.state.token.kind ≡ end_kind → ⊥) → PastToken s r.state after → node_words + node_words * bytes_left s after ≤ node_words * bytes_left s r.state
   past-less after z m =
       let some : 0 < r.state.token.len = g.standing.some z in
       let inside : r.state.token.at + r.state.token.len ≤ length s = g.standing.inside in
       let f : r.state.token.at + r.state.token.len ≤ after.token.at = m.forward in
       omega arith
 
-  pub behind-ready : (spare : ℕ) → RoomToRead s st entry n spare → (after : State) → (r.state.token.kind ≡ end_kind → ⊥) → PastToken s r.state after → length mid ≡ length entry → RoomToRead s after mid r.used spare
+  pub behind-ready : (spare : ℕ) → RoomToRead s st entry n spare → (after : ParserState) → (r.state.token.kind ≡ end_kind → ⊥) → PastToken s r.state after → length mid ≡ length entry → RoomToRead s after mid r.used spare
   behind-ready spare ready after z m l =
       let less : node_words + node_words * bytes_left s after ≤ node_words * bytes_left s r.state = past-less after z m in
       let room : n + node_words * bytes_left s st + spare + variables ≤ length entry = ready.room in
@@ -291,14 +291,14 @@ module _ {A L : Type 0} (over : ℕ) (wa : A → List ℕ) (ia : A → ℕ) (wl 
       record { standing = m.standing; held = held_of m g.held; room = omega arith; small = omega arith }
 
   -- a fault behind the comma is the whole's
-  pub more-fault : (exit : List ℕ) (after : State) (q : Refusal) (d : Read L) → Gives (form wl il) s after mid exit r.used (Err q) d → n ≤ length entry → Gives (form wl il) s st entry exit n (Err q) (and_then d (λ l end. ok (put a l) end))
+  pub more-fault : (exit : List ℕ) (after : ParserState) (q : Refusal) (d : Read L) → Gives (form wl il) s after mid exit r.used (Err q) d → n ≤ length entry → Gives (form wl il) s st entry exit n (Err q) (and_then d (λ l end. ok (put a l) end))
   unfolding and_then
   more-fault exit after q (fault f b) h k =
       let used : r.used ≡ n + length (wa a) = g.used_is in
       record { is = h.is; kept = shorter n r.used mid exit (omega arith) h.kept ∙ kept-before n n (length (wa a)) entry mid (wa a) (omega arith) k g.table_is }
   more-fault exit after q (ok l end) h k = absurd h
 
-  pub one-more : (exit : List ℕ) (after : State) (q p : Parsed) (d : Read L) → (r.state.token.kind ≡ end_kind → ⊥) → PastToken s r.state after → Gives (form wl il) s after mid exit r.used (Ok q) d → ItemCount q r.items p → Gives (form wl il) s st entry exit n (Ok p) (and_then d (λ l end. ok (put a l) end))
+  pub one-more : (exit : List ℕ) (after : ParserState) (q p : Parsed) (d : Read L) → (r.state.token.kind ≡ end_kind → ⊥) → PastToken s r.state after → Gives (form wl il) s after mid exit r.used (Ok q) d → ItemCount q r.items p → Gives (form wl il) s st entry exit n (Ok p) (and_then d (λ l end. ok (put a l) end))
   unfolding and_then
   one-more exit after q p (fault f b) z m h e = absurd h
   one-more exit after q p (ok l end) z m h e =
@@ -319,14 +319,14 @@ module _ {A L : Type 0} (over : ℕ) (wa : A → List ℕ) (ia : A → ℕ) (wl 
         used_is = omega arith;
         table_is = joined entry mid exit (wa a) (wl l) n g.table_is ends;
         standing = subst⁻¹ (CursorInside s) e.state_is h.standing;
-        held = subst⁻¹ (λ (x : State). Held s (met exit) x.count) e.state_is h.held;
-        room = subst⁻¹ (λ (x : State). length (wa a ++ wl l) + node_words * bytes_left s x + 1 ≤ node_words * bytes_left s st + 1) e.state_is (omega arith);
+        held = subst⁻¹ (λ (x : ParserState). SpansInside s (met exit) x.count) e.state_is h.held;
+        room = subst⁻¹ (λ (x : ParserState). length (wa a ++ wl l) + node_words * bytes_left s x + 1 ≤ node_words * bytes_left s st + 1) e.state_is (omega arith);
       } in
       subst⁻¹ (λ (w : List ℕ). Given s st entry exit n p w (il (put a l)) end) (words-put a l)
       (subst⁻¹ (λ (i : ℕ). Given s st entry exit n p (wa a ++ wl l) i end) (items-put a l) result)
 
   -- the things of a list that was read are few
-  pub few-items : ((l : L) → il l ≤ length (wl l)) → (exit : List ℕ) (after : State) (q : Parsed) (d : Read L) (m : ℕ) → CursorInside s after → Gives (form wl il) s after mid exit m (Ok q) d → q.items < 2 ^ 31
+  pub few-items : ((l : L) → il l ≤ length (wl l)) → (exit : List ℕ) (after : ParserState) (q : Parsed) (d : Read L) (m : ℕ) → CursorInside s after → Gives (form wl il) s after mid exit m (Ok q) d → q.items < 2 ^ 31
   few-items few exit after q d m stands h =
       let o : (l : L) × (d ≡ ok l (cursor_of s exit q.state)) × Given s after mid exit m q (wl l) (il l) (cursor_of s exit q.state) = seq-ok (form wl il) s after mid exit m q d h in
       let items : q.items ≡ il o.0 = o.2.items_is in
@@ -335,7 +335,7 @@ module _ {A L : Type 0} (over : ℕ) (wa : A → List ℕ) (ia : A → ℕ) (wl 
       let b : il o.0 ≤ length (wl o.0) = few o.0 in
       omega arith
 
-  pub one_last : (after : State) → (r.state.token.kind ≡ end_kind → ⊥) → PastToken s r.state after → Given s st entry mid n (record { used = r.used; items = r.items; state = after }) (wl (put a empty)) (il (put a empty)) (next s (cursor_of s mid r.state))
+  pub one_last : (after : ParserState) → (r.state.token.kind ≡ end_kind → ⊥) → PastToken s r.state after → Given s st entry mid n (record { used = r.used; items = r.items; state = after }) (wl (put a empty)) (il (put a empty)) (next s (cursor_of s mid r.state))
   one_last after z m =
       let less : node_words + node_words * bytes_left s after ≤ node_words * bytes_left s r.state = past-less after z m in
       let fits : length (wa a) + node_words * bytes_left s r.state + over ≤ node_words * bytes_left s st + 1 = g.room in
@@ -372,7 +372,7 @@ module _ (most : ℕ) (s : List ℕ) (k : ℕ) (st : Cursor) where
       let d : k ≡ suc (k - 1) = omega (arith, z) in
       ap (λ (j : ℕ). read_arguments (λ x. read_term most s x) s j st) d
 
-module _ (most : ℕ) (s : List ℕ) (k : ℕ) (st : State) where
+module _ (most : ℕ) (s : List ℕ) (k : ℕ) (st : ParserState) where
   pub arguments-full : (entry : List ℕ) (n : ℕ) (r : Refusal) → k ≡ 0 → Refused st (full_number (begins (start_of st.token.kind)) st.token.kind) r → Gives terms_form s st entry entry n (Err r) (read_arguments (λ x. read_term most s x) s k (cursor_of s entry st))
   unfolding read_arguments
   arguments-full entry n r z g = subst⁻¹ (λ (j : ℕ). Gives terms_form s st entry entry n (Err r) (read_arguments (λ x. read_term most s x) s j (cursor_of s entry st))) z (list_full terms_form s st st entry n r (cursor_of s entry st) refl g)
@@ -407,28 +407,28 @@ module _ (most : ℕ) (s : List ℕ) (k : ℕ) (st : State) where
       unfolding term_words
       words-nil = refl
 
-      pub arguments-ready : (after : State) → r.state.token.kind ≡ comma_kind → PastToken s r.state after → length mid ≡ length entry → RoomToRead s after mid r.used 0
+      pub arguments-ready : (after : ParserState) → r.state.token.kind ≡ comma_kind → PastToken s r.state after → length mid ≡ length entry → RoomToRead s after mid r.used 0
       arguments-ready after a m l = behind-ready 1 term_words one terms_words arity cons nil words-cons items-cons words-nil refl s st entry mid n r read.0 read.2 0 ready after (comma-no_end a) m l
 
       -- the whole, by the list behind a comma
-      with-more : (after : State) → r.state.token.kind ≡ comma_kind → PastToken s r.state after → whole-list most s k (cursor_of s entry st) ≡ and_then (read_arguments (λ y. read_term most s y) s (k - 1) (cursor_of s mid after)) (λ ts end. ok (cons read.0 ts) end)
+      with-more : (after : ParserState) → r.state.token.kind ≡ comma_kind → PastToken s r.state after → whole-list most s k (cursor_of s entry st) ≡ and_then (read_arguments (λ y. read_term most s y) s (k - 1) (cursor_of s mid after)) (λ ts end. ok (cons read.0 ts) end)
       unfolding arguments_after
       with-more after a m = behind more (after_more close_kind r.state.token.kind a) ∙ ap (λ (x : Cursor). and_then (read_arguments (λ y. read_term most s y) s (k - 1) x) (λ ts end. ok (cons read.0 ts) end)) (sym (next_of mid m))
 
-      pub arguments-behind : (exit : List ℕ) (after : State) (q : Refusal) → r.state.token.kind ≡ comma_kind → PastToken s r.state after → Gives terms_form s after mid exit r.used (Err q) (read_arguments (λ x. read_term most s x) s (k - 1) (cursor_of s mid after)) → Gives terms_form s st entry exit n (Err q) (read_arguments (λ x. read_term most s x) s k (cursor_of s entry st))
+      pub arguments-behind : (exit : List ℕ) (after : ParserState) (q : Refusal) → r.state.token.kind ≡ comma_kind → PastToken s r.state after → Gives terms_form s after mid exit r.used (Err q) (read_arguments (λ x. read_term most s x) s (k - 1) (cursor_of s mid after)) → Gives terms_form s st entry exit n (Err q) (read_arguments (λ x. read_term most s x) s k (cursor_of s entry st))
       arguments-behind exit after q a m h =
           subst⁻¹ (Gives terms_form s st entry exit n (Err q)) (with-more after a m)
           (more-fault 1 term_words one terms_words arity cons nil words-cons items-cons words-nil refl s st entry mid n r read.0 read.2 exit after q (read_arguments (λ x. read_term most s x) s (k - 1) (cursor_of s mid after)) h n-in)
 
-      pub arguments-more : (exit : List ℕ) (after : State) (q p : Parsed) → r.state.token.kind ≡ comma_kind → PastToken s r.state after → Gives terms_form s after mid exit r.used (Ok q) (read_arguments (λ x. read_term most s x) s (k - 1) (cursor_of s mid after)) → ItemCount q 1 p → Gives terms_form s st entry exit n (Ok p) (read_arguments (λ x. read_term most s x) s k (cursor_of s entry st))
+      pub arguments-more : (exit : List ℕ) (after : ParserState) (q p : Parsed) → r.state.token.kind ≡ comma_kind → PastToken s r.state after → Gives terms_form s after mid exit r.used (Ok q) (read_arguments (λ x. read_term most s x) s (k - 1) (cursor_of s mid after)) → ItemCount q 1 p → Gives terms_form s st entry exit n (Ok p) (read_arguments (λ x. read_term most s x) s k (cursor_of s entry st))
       arguments-more exit after q p a m h ep =
           subst⁻¹ (Gives terms_form s st entry exit n (Ok p)) (with-more after a m)
           (one-more 1 term_words one terms_words arity cons nil words-cons items-cons words-nil refl s st entry mid n r read.0 read.2 exit after q p (read_arguments (λ x. read_term most s x) s (k - 1) (cursor_of s mid after)) (comma-no_end a) m h (subst⁻¹ (λ (i : ℕ). ItemCount q i p) read.2.items_is ep))
 
-      pub arguments-few : (exit : List ℕ) (after : State) (q : Parsed) → PastToken s r.state after → Gives terms_form s after mid exit r.used (Ok q) (read_arguments (λ x. read_term most s x) s (k - 1) (cursor_of s mid after)) → q.items < 2 ^ 31
+      pub arguments-few : (exit : List ℕ) (after : ParserState) (q : Parsed) → PastToken s r.state after → Gives terms_form s after mid exit r.used (Ok q) (read_arguments (λ x. read_term most s x) s (k - 1) (cursor_of s mid after)) → q.items < 2 ^ 31
       arguments-few exit after q m h = few-items 1 term_words one terms_words arity cons nil words-cons items-cons words-nil refl s st entry mid n r read.0 read.2 arity-words exit after q (read_arguments (λ x. read_term most s x) s (k - 1) (cursor_of s mid after)) r.used m.standing h
 
-      pub arguments-last : (after : State) → r.state.token.kind ≡ close_kind → PastToken s r.state after → Gives terms_form s st entry mid n (Ok (record { used = r.used; items = 1; state = after })) (read_arguments (λ x. read_term most s x) s k (cursor_of s entry st))
+      pub arguments-last : (after : ParserState) → r.state.token.kind ≡ close_kind → PastToken s r.state after → Gives terms_form s st entry mid n (Ok (record { used = r.used; items = 1; state = after })) (read_arguments (λ x. read_term most s x) s k (cursor_of s entry st))
       unfolding arguments_after
       arguments-last after a m =
           subst⁻¹ (Gives terms_form s st entry mid n (Ok (record { used = r.used; items = 1; state = after }))) (behind last (after_last close_kind r.state.token.kind (close-no_comma a) a))

@@ -1,12 +1,12 @@
 -- What reading a sheet promises of its answer and of the two tables.
 use Rattle.std.specs.Prelude.{ℕ, ◌+◌, ◌-◌, ◌*◌, ◌≤◌, ◌≡◌, true, false, List, ◌++◌, eqb, length, take, Result, Ok, Err}
 use Rattle.syntax.specs.Limits.{variables, declarations, clauses}
-use Rattle.syntax.specs.Spans.{names_from, met, Held}
+use Rattle.syntax.specs.Spans.{names_from, met, SpansInside}
 use Rattle.syntax.specs.Terms.{Declaration, Clause, Sheet, Goal}
 use Rattle.syntax.specs.Reading.{Cursor, begin, Read, fault, ok, beyond, token_kind, read_declaration, read_clause, item_of, item_with, read_items, read_sheet}
 use Rattle.syntax.specs.Words.{node_words, declaration_size, declarations_words, clauses_words, body_words, body_length}
 use Rattle.syntax.specs.Verdicts.{fault_of}
-use Rattle.syntax.specs.declared.State.{State}
+use Rattle.syntax.specs.declared.ParserState.{ParserState}
 use Rattle.syntax.specs.declared.Refusal.{Refusal}
 use Rattle.parse.specs.Gives.{CursorInside, bytes_left}
 use Rattle.parse.specs.declared.Parsed.{Parsed}
@@ -27,7 +27,7 @@ items_before ds cs (fault k b) = fault k b
 items_before ds cs (ok sh end) = ok (record { declarations = ds ++ sh.declarations; clauses = cs ++ sh.clauses }) end
 
 -- The tables hold some declarations and clauses.
-pub record Holds (declared table : List ℕ) (ds cs used : ℕ) (dl : List Declaration) (cl : List Clause) : Type 0 where
+pub record SheetInTables (declared table : List ℕ) (ds cs used : ℕ) (dl : List Declaration) (cl : List Clause) : Type 0 where
   pub ds_is : ds ≡ length dl
   pub cs_is : cs ≡ length cl
   pub used_is : used ≡ length (clauses_words cl)
@@ -35,10 +35,10 @@ pub record Holds (declared table : List ℕ) (ds cs used : ℕ) (dl : List Decla
   pub table_is : take used table ≡ clauses_words cl
 
 -- Where the reading of a sheet stands: the tables hold what was read, and the whole is that and what is read from here on.
-pub record Loading (s declared table : List ℕ) (ds cs used : ℕ) (st : State) : Type 0 where
+pub record Loading (s declared table : List ℕ) (ds cs used : ℕ) (st : ParserState) : Type 0 where
   pub dl : List Declaration
   pub cl : List Clause
-  pub holds : Holds declared table ds cs used dl cl
+  pub holds : SheetInTables declared table ds cs used dl cl
   pub whole : read_sheet s ≡ items_before dl cl (read_items s (declarations + clauses + 1 - (ds + cs)) (declarations - ds) (clauses - cs) (begin st.token))
   pub ds_most : ds ≤ declarations
   pub cs_most : cs ≤ clauses
@@ -55,7 +55,7 @@ pub record LoadFault (s declared table : List ℕ) (r : SheetFault) (k b : ℕ) 
   pub is : r.refusal ≡ fault_of k b
   pub dl : List Declaration
   pub cl : List Clause
-  pub holds : Holds declared table r.before.declarations r.before.clauses r.before.used dl cl
+  pub holds : SheetInTables declared table r.before.declarations r.before.clauses r.before.used dl cl
   pub from : Cursor
   pub whole : read_sheet s
       ≡ items_before dl cl (read_items s (declarations + clauses + 1 - (r.before.declarations + r.before.clauses)) (declarations - r.before.declarations)
@@ -63,7 +63,7 @@ pub record LoadFault (s declared table : List ℕ) (r : SheetFault) (k b : ℕ) 
   pub faulty : ItemFault s (declarations - r.before.declarations) (clauses - r.before.clauses) from k b
 
 pub record LoadGiven (declared table : List ℕ) (r : SheetParsed) (sh : Sheet) : Type 0 where
-  pub holds : Holds declared table r.declarations r.clauses r.used sh.declarations sh.clauses
+  pub holds : SheetInTables declared table r.declarations r.clauses r.used sh.declarations sh.clauses
   pub few : r.declarations ≤ declarations
 
 abbrev pub Parses : List ℕ → List ℕ → List ℕ → Result SheetParsed SheetFault → Read Sheet → Type 0
@@ -79,7 +79,7 @@ pub record GoalGiven (s table : List ℕ) (r : Parsed) (g : Goal) : Type 0 where
   pub used_is : r.used ≡ length (body_words g.body)
   pub table_is : take r.used table ≡ body_words g.body
   pub few : r.state.count ≤ variables
-  pub held : Held s (met table) r.state.count
+  pub held : SpansInside s (met table) r.state.count
   pub names_are : g.names ≡ names_from s (met table) 0 r.state.count
 
 abbrev pub GoalParses : List ℕ → List ℕ → Result Parsed Refusal → Read Goal → Type 0

@@ -14,20 +14,21 @@ use crate::cursor::{beyond, counted, next, wrong};
 use crate::literals::read_plain;
 use crate::terms::read_atom;
 use syntax::{
-    BEHIND_KIND, BRACKETS, CLAUSE_START, LEFT_KIND, LITERALS, RIGHT_KIND, Refusal, State, TokenKind,
+    BEHIND_KIND, BRACKETS, CLAUSE_START, LEFT_KIND, LITERALS, ParserState, RIGHT_KIND, Refusal,
+    TokenKind,
 };
 use words::packing::pack_marker;
 use words::tables::{put, put_three};
 
-// One literal more than a body may have: so many at most are read into one, and the count of literals stops the reading before.
+// One literal more than a body may have: the reading of a body counts down from it, and the count of literals stops that before it comes to 0.
 const BODY_LITERALS: usize = LITERALS + 1;
 
-// One literal, with so many brackets left. A bracket's sides are bodies, read with one fewer: these four functions call each other.
+// One literal. A bracket's sides are bodies, read with one bracket fewer left: these four functions call each other.
 #[cycle(read_body_read_literal_read_side_read_sides)]
 fn read_literal(
     s: &[u8],
     left: usize,
-    st: State,
+    st: ParserState,
     table: &mut [u32],
     n: usize,
 ) -> Result<Parsed, Refusal>
@@ -49,7 +50,7 @@ fn read_literal(
 fn read_sides(
     s: &[u8],
     left: usize,
-    st: State,
+    st: ParserState,
     table: &mut [u32],
     n: usize,
 ) -> Result<Parsed, Refusal>
@@ -72,15 +73,14 @@ fn read_sides(
     Ok(close_sides(z, y.items, table))
 }
 
-// A side of a bracket, up to a token of the kind `end`: its items, and before them the word of `kind`, at n. (The kind is a word of the table, so it is a
-// number here; an enum of two sides would be turned into that number and into `end` by two more functions.)
+// A side of a bracket, up to a token of the kind `end`: its items, and before them, at `n`, the word of `kind`.
 #[cycle(read_body_read_literal_read_side_read_sides)]
 fn read_side(
     s: &[u8],
     left: usize,
     end: TokenKind,
     kind: usize,
-    st: State,
+    st: ParserState,
     table: &mut [u32],
     n: usize,
 ) -> Result<Parsed, Refusal>
@@ -93,14 +93,14 @@ fn read_side(
     Ok(open_side(r, kind, table, n))
 }
 
-// Literals up to a token of the kind `end`, at most k.
+// Literals up to a token of the kind `end`, at most `k`.
 #[cycle(read_body_read_literal_read_side_read_sides)]
 fn read_body(
     s: &[u8],
     left: usize,
     end: TokenKind,
     k: usize,
-    st: State,
+    st: ParserState,
     table: &mut [u32],
     n: usize,
 ) -> Result<Parsed, Refusal>
@@ -129,7 +129,7 @@ fn read_body(
     Err(wrong(after))
 }
 
-// A side that was read, with the word before it, which is stored at n.
+// A side that was read, with the word before it, which is stored at `n`.
 fn open_side(r: Parsed, kind: usize, table: &mut [u32], n: usize) -> Parsed
     requires { (n < length table.old) × ((kind < item_kinds) × (r.items < 2 ^ 28)) }
     ensures { (result ≡ record { used = r.used; items = r.items + 1; state = r.state })
@@ -156,8 +156,8 @@ fn close_sides(z: Parsed, items: usize, table: &mut [u32]) -> Parsed
     }
 }
 
-// The body of a clause or goal: literals up to the full stop.
-pub fn read_whole(s: &[u8], st: State, table: &mut [u32], n: usize) -> Result<Parsed, Refusal>
+/// The body of a clause or goal: literals up to the full stop, whose words are written from `n` on.
+pub fn read_whole(s: &[u8], st: ParserState, table: &mut [u32], n: usize) -> Result<Parsed, Refusal>
     requires { RoomToRead s.now st table.old n 1 }
     ensures { Gives body_form s.now st table.old table.new n result
         (read_body s.now (cursor_of s.now table.old st)) }
@@ -166,20 +166,20 @@ pub fn read_whole(s: &[u8], st: State, table: &mut [u32], n: usize) -> Result<Pa
 }
 
 // The reader with no variable and no literal met.
-fn fresh(st: State) -> State
+fn fresh(st: ParserState) -> ParserState
     ensures { result ≡ Rattle.parse.specs.Gives.fresh st }
 {
-    State {
+    ParserState {
         token: st.token,
         count: 0,
         literals: 0,
     }
 }
 
-// The body of a clause whose head was read, and then the clause's first words, at n; the :- is at hand.
+// The body of a clause whose head was read, and then the clause's first words, at `n`; the `:-` is at hand.
 fn read_rule(
     s: &[u8],
-    st: State,
+    st: ParserState,
     table: &mut [u32],
     n: usize,
     used: usize,
@@ -194,8 +194,13 @@ fn read_rule(
     Ok(Parsed { items: 1, ..r })
 }
 
-// A clause, of which the head's name is at hand.
-pub fn read_clause(s: &[u8], st: State, table: &mut [u32], n: usize) -> Result<Parsed, Refusal>
+/// A clause, of which the head's name is at hand; its words are written from `n` on.
+pub fn read_clause(
+    s: &[u8],
+    st: ParserState,
+    table: &mut [u32],
+    n: usize,
+) -> Result<Parsed, Refusal>
     requires room_to_read { RoomToRead s.now (Rattle.parse.specs.Gives.fresh st) table.old n 4 }
     requires kind_value { st.token.kind ≡ name_kind }
     ensures { Gives clause_form s.now st table.old table.new n result

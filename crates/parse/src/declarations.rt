@@ -10,7 +10,7 @@ ghost use Rattle.parse.specs.Marks.{MarksGive, DeclarationGives};
 
 use crate::Parsed;
 use crate::cursor::{beyond, next, wrong};
-use syntax::{ARGUMENTS, DECLARATION_SIZE, Refusal, State, TokenKind};
+use syntax::{ARGUMENTS, DECLARATION_SIZE, ParserState, Refusal, TokenKind};
 use words::packing::{mark_number, pack_mark};
 use words::tables::{put, put_three};
 use words::texts::is_mode;
@@ -20,11 +20,11 @@ use words::texts::is_mode;
 struct MarkList {
     marks: usize,
     items: usize,
-    state: State,
+    state: ParserState,
 }
 
-// A list of marks after its opening bracket, at most k.
-fn read_marks(s: &[u8], k: usize, st: State) -> Result<MarkList, Refusal>
+// A list of marks after its opening bracket, at most `k`.
+fn read_marks(s: &[u8], k: usize, st: ParserState) -> Result<MarkList, Refusal>
     requires cursor_inside { CursorInside s.now st }
     requires k_le_arguments { k ≤ arguments }
     ensures { MarksGive s.now st k result (read_marks s.now k (begin st.token)) }
@@ -65,7 +65,7 @@ fn marked(m: usize, more: MarkList) -> MarkList
 }
 
 // The marks behind a declaration's name, or none.
-fn read_some_marks(s: &[u8], st: State) -> Result<MarkList, Refusal>
+fn read_some_marks(s: &[u8], st: ParserState) -> Result<MarkList, Refusal>
     requires { CursorInside s.now st }
     ensures { MarksGive s.now st arguments result (marks_read s.now (begin st.token) (same_kind st.token.kind open_kind)) }
 {
@@ -81,7 +81,7 @@ fn read_some_marks(s: &[u8], st: State) -> Result<MarkList, Refusal>
 }
 
 // A declaration's name, marks and full stop.
-fn read_declared(s: &[u8], st: State, table: &mut [u32], n: usize) -> Result<Parsed, Refusal>
+fn read_declared(s: &[u8], st: ParserState, table: &mut [u32], n: usize) -> Result<Parsed, Refusal>
     requires cursor_inside { CursorInside s.now st }
     requires declaration_size_in_bounds { n + declaration_size ≤ length table.old }
     ensures { DeclarationGives s.now st table.old table.new n result (declaration_from s.now (begin st.token)
@@ -107,8 +107,13 @@ fn read_declared(s: &[u8], st: State, table: &mut [u32], n: usize) -> Result<Par
     })
 }
 
-// A declaration, of which the :- is at hand.
-pub fn read_declaration(s: &[u8], st: State, table: &mut [u32], n: usize) -> Result<Parsed, Refusal>
+/// A declaration, of which the `:-` is at hand; its words are written at `n`.
+pub fn read_declaration(
+    s: &[u8],
+    st: ParserState,
+    table: &mut [u32],
+    n: usize,
+) -> Result<Parsed, Refusal>
     requires cursor_inside { CursorInside s.now st }
     requires declaration_size_in_bounds { n + declaration_size ≤ length table.old }
     ensures { DeclarationGives s.now st table.old table.new n result

@@ -1,7 +1,7 @@
-// Terms without arguments into the node table: variables and numerals.
+// Terms without arguments into the node table: variables and numerals, and the node of any token at hand.
 ghost use Rattle.std.specs.Prelude.{◌≡◌, [], ◌∷◌, ℕ, ◌+◌, ◌-◌, ◌≤◌, ◌<◌, ◌^◌, length, set};
 ghost use Rattle.syntax.specs.Limits.{sheet_bytes, variables};
-ghost use Rattle.syntax.specs.Spans.{packed, met, Held};
+ghost use Rattle.syntax.specs.Spans.{packed, met, SpansInside};
 ghost use Rattle.syntax.specs.Terms.{term_of};
 ghost use Rattle.syntax.specs.Tokens.{name_kind, variable_kind, numeral_kind, end_kind};
 ghost use Rattle.syntax.specs.Reading.{is_anonymous, numeral_at, new_variable, read_variable, read_term};
@@ -10,16 +10,15 @@ ghost use Rattle.parse.specs.Gives.{cursor_of, found, CursorInside, RoomToRead, 
 
 use crate::Parsed;
 use crate::cursor::{beyond, next, same_span, wrong};
-use syntax::{NODE_WORDS, Refusal, State, TokenKind, VARIABLES};
+use syntax::{NODE_WORDS, ParserState, Refusal, TokenKind, VARIABLES};
 use words::packing::{pack_functor, pack_span};
 use words::tables::put_three;
 use words::texts::{first_kept, is_anonymous};
 
-// The number of the variable at hand among those met, if it was met before. (By `for`: with `find` over the range, tried and proved, parsing took 0.3 to
-// 0.7 in a hundred more instructions.)
-fn number_of(s: &[u8], st: State, table: &[u32]) -> Option<usize>
+// The number of the variable at hand among those met; none where it was not met before.
+fn number_of(s: &[u8], st: ParserState, table: &[u32]) -> Option<usize>
     requires cursor_inside { CursorInside s.now st }
-    requires variables_in_bounds { (variables ≤ length table.now) × Held s.now (met table.now) st.count }
+    requires variables_in_bounds { (variables ≤ length table.now) × SpansInside s.now (met table.now) st.count }
     ensures { FoundAs (found s.now table.now st) st.count result }
 {
     let from = table.len() - VARIABLES;
@@ -31,10 +30,10 @@ fn number_of(s: &[u8], st: State, table: &[u32]) -> Option<usize>
     None
 }
 
-// The same; `_` alone was never met.
-fn known_number(s: &[u8], st: State, table: &[u32]) -> Option<usize>
+// The number of the variable at hand among those met; none where it was not met before or is `_` alone.
+fn known_number(s: &[u8], st: ParserState, table: &[u32]) -> Option<usize>
     requires cursor_inside { CursorInside s.now st }
-    requires variables_in_bounds { (variables ≤ length table.now) × Held s.now (met table.now) st.count }
+    requires variables_in_bounds { (variables ≤ length table.now) × SpansInside s.now (met table.now) st.count }
     ensures { MetAs (is_anonymous s.now st.token) (found s.now table.now st) st.count result }
 {
     if is_anonymous(s, st.token) {
@@ -44,7 +43,7 @@ fn known_number(s: &[u8], st: State, table: &[u32]) -> Option<usize>
 }
 
 // The reader with one variable more, first met here; its word is stored.
-fn with_new(st: State, table: &mut [u32]) -> State
+fn with_new(st: ParserState, table: &mut [u32]) -> ParserState
     requires at_le_sheet_bytes { (st.token.at ≤ sheet_bytes) × (st.token.len ≤ sheet_bytes) }
     requires count_lt_variables { (st.count < variables) × ((variables ≤ length table.old) × (length table.old < 2 ^ 31)) }
     ensures is { result ≡ record { token = st.token; count = st.count + 1; literals = st.literals } }
@@ -53,14 +52,14 @@ fn with_new(st: State, table: &mut [u32]) -> State
 {
     let p = table.len() - VARIABLES + st.count;
     table[p] = pack_span(st.token.at, st.token.len);
-    State {
+    ParserState {
         count: st.count + 1,
         ..st
     }
 }
 
-// A node without arguments for the token at hand, at a byte of it, and the reader past it.
-fn leaf_at(s: &[u8], st: State, table: &mut [u32], n: usize, what: usize, at: usize) -> Parsed
+// A node without arguments, of the first word `what`, for the token at hand and at a byte of it; and the reader past it.
+fn leaf_at(s: &[u8], st: ParserState, table: &mut [u32], n: usize, what: usize, at: usize) -> Parsed
     requires room_to_read { RoomToRead s.now st table.old n 0 }
     requires what_bound { (what < 2 ^ 32) × ((at < 2 ^ 32) × (st.token.kind ≡ end_kind → ⊥)) }
     ensures { Given s.now st table.old table.new n result (what ∷ node_words ∷ at ∷ []) 1
@@ -74,8 +73,8 @@ fn leaf_at(s: &[u8], st: State, table: &mut [u32], n: usize, what: usize, at: us
     }
 }
 
-// The same at its first byte.
-pub fn leaf(s: &[u8], st: State, table: &mut [u32], n: usize, what: usize) -> Parsed
+/// A node without arguments, of the first word `what`, for the token at hand and at its first byte; and the reader past it.
+pub fn leaf(s: &[u8], st: ParserState, table: &mut [u32], n: usize, what: usize) -> Parsed
     requires room_to_read { RoomToRead s.now st table.old n 0 }
     requires what_bound { (what < 2 ^ 32) × (st.token.kind ≡ end_kind → ⊥) }
     ensures { Given s.now st table.old table.new n result (what ∷ node_words ∷ st.token.at ∷ []) 1
@@ -85,7 +84,7 @@ pub fn leaf(s: &[u8], st: State, table: &mut [u32], n: usize, what: usize) -> Pa
 }
 
 // The numeral at hand, without its leading zeros.
-fn read_numeral(s: &[u8], st: State, table: &mut [u32], n: usize) -> Parsed
+fn read_numeral(s: &[u8], st: ParserState, table: &mut [u32], n: usize) -> Parsed
     requires room_to_read { RoomToRead s.now st table.old n 0 }
     requires kind_value { st.token.kind ≡ numeral_kind }
     ensures { Given s.now st table.old table.new n result
@@ -100,7 +99,7 @@ fn read_numeral(s: &[u8], st: State, table: &mut [u32], n: usize) -> Parsed
 }
 
 // A variable that is met here first.
-fn new_variable(s: &[u8], st: State, table: &mut [u32], n: usize) -> Result<Parsed, Refusal>
+fn new_variable(s: &[u8], st: ParserState, table: &mut [u32], n: usize) -> Result<Parsed, Refusal>
     requires room_to_read { RoomToRead s.now st table.old n 0 }
     requires kind_value { st.token.kind ≡ variable_kind }
     ensures { Gives term_form s.now st table.old table.new n result
@@ -114,7 +113,8 @@ fn new_variable(s: &[u8], st: State, table: &mut [u32], n: usize) -> Result<Pars
     Err(beyond(st))
 }
 
-fn read_variable(s: &[u8], st: State, table: &mut [u32], n: usize) -> Result<Parsed, Refusal>
+// The variable at hand, met before or new.
+fn read_variable(s: &[u8], st: ParserState, table: &mut [u32], n: usize) -> Result<Parsed, Refusal>
     requires room_to_read { RoomToRead s.now st table.old n 0 }
     requires kind_value { st.token.kind ≡ variable_kind }
     ensures { Gives term_form s.now st table.old table.new n result
@@ -126,8 +126,13 @@ fn read_variable(s: &[u8], st: State, table: &mut [u32], n: usize) -> Result<Par
     }
 }
 
-// A term that begins with no name: a variable or a numeral, or a token that cannot stand here. It has no brackets, so none are counted.
-pub fn read_simple(s: &[u8], st: State, table: &mut [u32], n: usize) -> Result<Parsed, Refusal>
+/// A term that begins with no name: a variable or a numeral; a refusal where the token at hand begins no term.
+pub fn read_simple(
+    s: &[u8],
+    st: ParserState,
+    table: &mut [u32],
+    n: usize,
+) -> Result<Parsed, Refusal>
     requires room_to_read { RoomToRead s.now st table.old n 0 }
     requires fact { st.token.kind ≡ name_kind → ⊥ }
     ensures { (most : ℕ) → Gives term_form s.now st table.old table.new n result

@@ -1,9 +1,7 @@
-// Tokens into words of a table: terms, literals, clauses, declarations, sheets and goals; refusals 3 to 6. At the root what a part of them read.
+// Tokens into words of a table: terms, literals, clauses, declarations, sheets and goals; refusals 3 to 6 of RULES.
 //
-// The reader of terms: where it stands in a text, and terms without arguments into a table of words. Text, reader, table and place go along as parameters,
-// here and in the crates above, and the number of brackets left where a term may have some: reader, place and number differ from call to call, so a struct of
-// them would be built anew at each, and one of text and table would have a `&mut` field, of which each function would promise that it is still the same
-// reference. So what is asked of them (`RoomToRead`, `CursorInside`) stands in each contract.
+// Parameters have the same names throughout: `s` is the text, `st` where its reader stands, `table` the words, `n` the place to write at, and `left` how many
+// brackets may still be opened. `CursorInside` and `RoomToRead` (specs/Gives) say what is asked of them.
 
 #![tactic(auto)]
 
@@ -15,12 +13,13 @@ pub mod literals;
 pub mod sheets;
 pub mod terms;
 
-use syntax::State;
+use syntax::ParserState;
 
-// What was read: how much of the table is used, how many things were read, and where the reader stands.
+/// What was read of a text: the place in the table behind its words, how many things it is (arguments, items of a body; else 1), and where the reader
+/// stands behind it.
 #[derive(Clone, Copy)]
 pub struct Parsed {
     pub used: usize,
     pub items: usize,
-    pub state: State,
+    pub state: ParserState,
 }

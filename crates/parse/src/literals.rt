@@ -13,17 +13,17 @@ use crate::Parsed;
 use crate::cursor::{full, next, wrong};
 use crate::terms::{read_atom, read_term};
 use syntax::{
-    CALL_KIND, EQUATION_KIND, FALSITY_KIND, LITERALS, NODE_WORDS, Refusal, State, TRUTH_KIND,
+    CALL_KIND, EQUATION_KIND, FALSITY_KIND, LITERALS, NODE_WORDS, ParserState, Refusal, TRUTH_KIND,
     TokenKind,
 };
 use words::tables::put;
 use words::texts::{is_fail, is_true};
 
-// An equation whose left side was read: its first word, at n, and its right side, behind the = at hand, with so many brackets left.
+// An equation whose left side was read: its first word, at `n`, and its right side, behind the `=` at hand.
 fn read_right(
     s: &[u8],
     left: usize,
-    st: State,
+    st: ParserState,
     table: &mut [u32],
     n: usize,
     used: usize,
@@ -37,8 +37,8 @@ fn read_right(
     read_term(s, left, next(s, st), table, used)
 }
 
-// What an atom alone stands for: truth, falsehood or a call, as the number of that kind, which goes into the table as the literal's first word. (Its name is
-// text, byte and length, as in `words::texts`.)
+// What an atom alone stands for: truth, falsehood or a call, as the number of that kind, which is the literal's first word in the table. `size` is how many
+// words the atom takes.
 fn atom_number(s: &[u8], at: usize, len: usize, size: usize) -> usize
     requires { at + len ≤ length s.now }
     ensures { result ≡ atom_number (eqb size node_words) (spelling s.now at len) }
@@ -59,7 +59,7 @@ fn atom_number(s: &[u8], at: usize, len: usize, size: usize) -> usize
 fn read_named(
     s: &[u8],
     left: usize,
-    st: State,
+    st: ParserState,
     table: &mut [u32],
     n: usize,
 ) -> Result<Parsed, Refusal>
@@ -76,7 +76,7 @@ fn read_named(
 }
 
 // The atom at hand, which was read, as a literal of its own.
-fn alone(s: &[u8], st: State, r: Parsed, table: &mut [u32], n: usize) -> Parsed
+fn alone(s: &[u8], st: ParserState, r: Parsed, table: &mut [u32], n: usize) -> Parsed
     requires cursor_inside { CursorInside s.now st }
     requires n_bound { (n + 1 ≤ r.used) × (n + 1 ≤ length table.old) }
     ensures { Alone s.now st r table.old table.new n result }
@@ -97,12 +97,11 @@ fn alone(s: &[u8], st: State, r: Parsed, table: &mut [u32], n: usize) -> Parsed
     }
 }
 
-// A literal that begins with a variable or a numeral is an equation. (Apart from `read_named`: a function for both would take what reads the first term,
-// and what an atom alone is, as closures.)
+// A literal that begins with a variable or a numeral, which is an equation.
 fn read_equation(
     s: &[u8],
     left: usize,
-    st: State,
+    st: ParserState,
     table: &mut [u32],
     n: usize,
 ) -> Result<Parsed, Refusal>
@@ -121,7 +120,7 @@ fn read_equation(
 fn read_one(
     s: &[u8],
     left: usize,
-    st: State,
+    st: ParserState,
     table: &mut [u32],
     n: usize,
 ) -> Result<Parsed, Refusal>
@@ -136,7 +135,7 @@ fn read_one(
 }
 
 // The reader with one literal more.
-fn with_literal(st: State) -> State
+fn with_literal(st: ParserState) -> ParserState
     requires { st.literals < literals }
     ensures { result ≡ with_literal st }
 {
@@ -145,11 +144,11 @@ fn with_literal(st: State) -> State
     more
 }
 
-// A literal that is no bracket, where the clause or goal may have one more.
+/// A literal that is no bracket; a refusal where the clause or goal has as many as it may.
 pub fn read_plain(
     s: &[u8],
     left: usize,
-    st: State,
+    st: ParserState,
     table: &mut [u32],
     n: usize,
 ) -> Result<Parsed, Refusal>

@@ -1,5 +1,4 @@
-// Terms into the node table. Reading one term and reading a list of terms call each other, with fewer brackets left. `own` is a
-// copy of the reader for one call: compiled, a parameter that is handed on is copied whole at each entry, and `own` only where that call is made.
+// Terms into the node table. Reading one term and reading a list of terms call each other, with fewer brackets left.
 
 ghost use Rattle.std.specs.Prelude.{◌≡◌, ◌+◌, ◌-◌, ◌≤◌, ◌<◌, ◌^◌, length, set};
 ghost use Rattle.syntax.specs.Tokens.{name_kind};
@@ -10,16 +9,16 @@ ghost use Rattle.parse.specs.Gives.{cursor_of, RoomToRead, Gives, term_form, ter
 use crate::Parsed;
 use crate::cursor::{beyond, counted, full, next, wrong};
 use crate::leaves::{leaf, read_simple};
-use syntax::{ARGUMENTS, NODE_WORDS, Refusal, State, TokenKind};
+use syntax::{ARGUMENTS, NODE_WORDS, ParserState, Refusal, TokenKind};
 use words::packing::pack_functor;
 use words::tables::put_three;
 
-// A name with an optional bracketed list; the name is at hand.
+/// A name with an optional bracketed list of terms; the name is at hand.
 #[cycle(read_arguments_read_atom_read_term)]
 pub fn read_atom(
     s: &[u8],
     left: usize,
-    st: State,
+    st: ParserState,
     table: &mut [u32],
     n: usize,
 ) -> Result<Parsed, Refusal>
@@ -42,7 +41,7 @@ pub fn read_atom(
 }
 
 // The node of the name at hand, whose arguments were read.
-fn close(st: State, r: Parsed, table: &mut [u32], n: usize) -> Parsed
+fn close(st: ParserState, r: Parsed, table: &mut [u32], n: usize) -> Parsed
     requires { (n + node_words ≤ length table.old) × ((st.token.at < 2 ^ 31)
         × ((st.token.len < 2 ^ 15) × ((r.items < 2 ^ 20) × ((n ≤ r.used) × (r.used < 2 ^ 31))))) }
     ensures { (result ≡ record { used = r.used; items = 1; state = r.state })
@@ -57,12 +56,12 @@ fn close(st: State, r: Parsed, table: &mut [u32], n: usize) -> Parsed
     }
 }
 
-// A term. Small, so that a name's node is read without a call between.
+/// A term, whose first token is at hand.
 #[cycle(read_arguments_read_atom_read_term)]
 pub fn read_term(
     s: &[u8],
     left: usize,
-    st: State,
+    st: ParserState,
     table: &mut [u32],
     n: usize,
 ) -> Result<Parsed, Refusal>
@@ -76,13 +75,13 @@ pub fn read_term(
     }
 }
 
-// A list of terms after its opening bracket, of at most k.
+// A list of terms after its opening bracket, of at most `k`.
 #[cycle(read_arguments_read_atom_read_term)]
 fn read_arguments(
     s: &[u8],
     left: usize,
     k: usize,
-    st: State,
+    st: ParserState,
     table: &mut [u32],
     n: usize,
 ) -> Result<Parsed, Refusal>
@@ -93,6 +92,7 @@ fn read_arguments(
     if k == 0 {
         return Err(full(st));
     }
+    // Copied here, where the call is made, and so not at each entry of the function.
     let own = st;
     let r = read_term(s, left, own, table, n)?;
     let after = r.state;

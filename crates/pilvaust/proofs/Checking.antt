@@ -20,13 +20,13 @@ use Rattle.syntax.specs.Verdicts.{Verdict}
 use Rattle.syntax.specs.Verdicts.{Accepted, Refused}
 use Rattle.mode_rules.specs.Modes.{sheet_fault, goal_fault}
 use Rattle.mode_rules.specs.Checking.{faultless, checked_from, checked_with, checked_sheet, verdict_with, check_verdict, checked_goal_from, checked_goal, goal_answer, check_goal_from, check_goal_verdict}
-use Rattle.marks.specs.Standing.{SheetSpelt, DeclarationsSpelt}
-use Rattle.words.specs.Tables.{Has}
+use Rattle.marks.specs.Spelt.{SheetSpelt, DeclarationsSpelt}
+use Rattle.words.specs.Tables.{WordsAt}
 use Rattle.marks.specs.Tables.{SheetAt, GoalAt, DeclarationsAt}
 use Rattle.std.specs.Prelude.{Ok, Err}
 use Rattle.syntax.specs.declared.Fault.{Fault}
 use Rattle.marks.specs.Answers.{Checked, checked_of}
-use Rattle.pilvaust.specs.Tables.{Tabled, GoalInTable, GoalTabled, Over}
+use Rattle.pilvaust.specs.Tables.{Tabled, GoalInTable, GoalTabled, SheetTabled}
 use Rattle.pilvaust.specs.declared.reading.GoalRead.{GoalRead}
 use Rattle.marks.specs.Flags.{DeclaredOnce}
 use Rattle.marks.proofs.Accepted.{read-few}
@@ -88,9 +88,9 @@ module _ (stored : Bool) (s declared table : List ℕ) (v : Verdict) (e : v ≡ 
     sheet-stands-at : SheetAt s declared n table k
     sheet-stands-at = record {
       sheet = of.0;
-      has_declarations = subst (λ (x : Sheet). Has declared 0 (declarations_words x.declarations)) tabled.is tabled.stands.has_declarations;
+      has_declarations = subst (λ (x : Sheet). WordsAt declared 0 (declarations_words x.declarations)) tabled.is tabled.stands.has_declarations;
       declarations_count = of.2;
-      has_clauses = subst (λ (x : Sheet). Has table 0 (Rattle.syntax.specs.Words.clauses_words x.clauses)) tabled.is tabled.stands.has_clauses;
+      has_clauses = subst (λ (x : Sheet). WordsAt table 0 (Rattle.syntax.specs.Words.clauses_words x.clauses)) tabled.is tabled.stands.has_clauses;
       clauses_count = of.3;
       stands = subst (SheetSpelt s) tabled.is tabled.stands.stands;
     }
@@ -121,7 +121,7 @@ module _ (stored : Bool) (s declared table : List ℕ) (v : Verdict) (e : v ≡ 
 
 -- ---- a goal over a sheet
 
-pub over-declarations : {s declared : List ℕ} {n k : ℕ} → Over s declared n k → DeclarationsAt s declared n
+pub over-declarations : {s declared : List ℕ} {n k : ℕ} → SheetTabled s declared n k → DeclarationsAt s declared n
 over-declarations w = record { list = w.sheet.declarations; has = w.has; count = w.count; stand = w.stand }
 
 pub goal-refused-by : (o : Outcome Goal) (t : Text) (q : Refusal) → goal_verdict o ≡ Refused t q → (o ≡ refused q) × (t ≡ in_goal)
@@ -137,7 +137,7 @@ goal-accepted-by (refused r) n k e = absurd (let z : ◌≡◌ {A = ℕ} 0 1 = c
 goal-accepted-by (accepted g) n k e = (g, refl)
 
 module _ (s declared : List ℕ) (n k : ℕ) (g table : List ℕ) where
-  pub over-refused : (f : Fault) → GoalTabled g table (Err f) → (w : Over s declared n k) → ◌≡◌ {A = Verdict} (Err f) (goal_answer w.sheet (checked_goal w.sheet g))
+  pub over-refused : (f : Fault) → GoalTabled g table (Err f) → (w : SheetTabled s declared n k) → ◌≡◌ {A = Verdict} (Err f) (goal_answer w.sheet (checked_goal w.sheet g))
   unfolding checked_goal checked_goal_from goal_answer
   over-refused f t w =
       let o : (goal_outcome g ≡ refused f.refusal) × (f.text ≡ in_goal) = goal-refused-by (goal_outcome g) f.text f.refusal (sym t) in
@@ -151,7 +151,7 @@ module _ (s declared : List ℕ) (n k : ℕ) (g table : List ℕ) where
     unfolding goal-of
     standing = t.2
 
-    pub goal-stands-at : Over s declared n k → GoalAt s declared n g table r.literals
+    pub goal-stands-at : SheetTabled s declared n k → GoalAt s declared n g table r.literals
     goal-stands-at w = record {
       sheet = w.sheet;
       goal = goal-of.0;
@@ -164,17 +164,17 @@ module _ (s declared : List ℕ) (n k : ℕ) (g table : List ℕ) where
     }
 
     module _ (ck : Checked) (ec : (w : GoalAt s declared n g table r.literals) → ck ≡ checked_of (goal_fault w.sheet w.goal)) where
-      pub checked-over : (w : Over s declared n k) → ck ≡ checked_of (goal_fault w.sheet goal-of.0)
+      pub checked-over : (w : SheetTabled s declared n k) → ck ≡ checked_of (goal_fault w.sheet goal-of.0)
       unfolding goal-stands-at
       checked-over w = ec (goal-stands-at w)
 
-      pub over-fine : ck ≡ Ok tt → (w : Over s declared n k) → Accepted n k ≡ goal_answer w.sheet (checked_goal w.sheet g)
+      pub over-fine : ck ≡ Ok tt → (w : SheetTabled s declared n k) → Accepted n k ≡ goal_answer w.sheet (checked_goal w.sheet g)
       unfolding checked_goal checked_goal_from goal_answer faultless sheet_verdict
       over-fine h w =
           ap₂ Accepted w.count w.clauses
           ∙ sym (ap (λ (y : Outcome Goal). goal_answer w.sheet (checked_goal_from w.sheet y)) goal-of.1 ∙ ap (λ (y : Option Refusal). goal_answer w.sheet (faultless goal-of.0 y)) (fine-none (goal_fault w.sheet goal-of.0) (sym h ∙ checked-over w)))
 
-      pub over-fault : (q : Refusal) → ck ≡ Err q → (w : Over s declared n k) → Refused in_goal q ≡ goal_answer w.sheet (checked_goal w.sheet g)
+      pub over-fault : (q : Refusal) → ck ≡ Err q → (w : SheetTabled s declared n k) → Refused in_goal q ≡ goal_answer w.sheet (checked_goal w.sheet g)
       unfolding checked_goal checked_goal_from goal_answer faultless
       over-fault q h w = sym (ap (λ (y : Outcome Goal). goal_answer w.sheet (checked_goal_from w.sheet y)) goal-of.1 ∙ ap (λ (y : Option Refusal). goal_answer w.sheet (faultless goal-of.0 y)) (fault-some (goal_fault w.sheet goal-of.0) q (sym h ∙ checked-over w)))
 
@@ -207,15 +207,15 @@ module _ (s declared table g : List ℕ) (v : Verdict) (e : v ≡ check_verdict 
     in_tables : Tabled s declared table of-checked.0
     in_tables = holds of-checked.0 of-checked.1
 
-    pub over-at : Over s declared n k
+    pub over-at : SheetTabled s declared n k
     over-at = record {
       sheet = of-checked.0;
-      has = subst (λ (x : Sheet). Has declared 0 (declarations_words x.declarations)) in_tables.is in_tables.stands.has_declarations;
+      has = subst (λ (x : Sheet). WordsAt declared 0 (declarations_words x.declarations)) in_tables.is in_tables.stands.has_declarations;
       count = of-checked.2;
       clauses = of-checked.3;
       stand = subst (λ (x : Sheet). DeclarationsSpelt s x.declarations) in_tables.is in_tables.stands.stands.declarations;
     }
 
-    pub both-answered : (u : Verdict) → ((w : Over s declared n k) → u ≡ goal_answer w.sheet (checked_goal w.sheet g)) → u ≡ check_goal_verdict s g
+    pub both-answered : (u : Verdict) → ((w : SheetTabled s declared n k) → u ≡ goal_answer w.sheet (checked_goal w.sheet g)) → u ≡ check_goal_verdict s g
     unfolding check_goal_verdict check_goal_from over-at
     both-answered u h = h over-at ∙ sym (ap (check_goal_from g) of-checked.1)

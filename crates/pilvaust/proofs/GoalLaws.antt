@@ -1,4 +1,4 @@
--- Laws of a goal over a sheet that stands in its tables: one for each way out of `run_goal`. Assumes nothing.
+-- Laws of a goal over a sheet that stands in its tables: one for each way out of `pilvaust::running::read_goal_and_run`. Assumes nothing.
 use Prim.Native.Nat.{ℕ, ◌-◌, ◌≤◌}
 use native.Mathlib.Omega.{arith}
 use mathlib.Core.Path.{◌≡◌, refl, sym, ap, ◌∙◌, subst⁻¹}
@@ -29,15 +29,15 @@ use Rattle.std.specs.Prelude.{Result, Ok, Err}
 use Rattle.syntax.specs.declared.Fault.{Fault}
 use Rattle.marks.specs.Answers.{Checked, checked_of}
 use Rattle.run_layout.proofs.Limits.{goal-limited}
-use Rattle.run.specs.Running.{Runs}
+use Rattle.run.specs.Running.{RunWritten}
 use Rattle.run.specs.Programs.{Programmed}
-use Rattle.pilvaust.specs.Tables.{GoalInTable, GoalTabled, Over}
-use Rattle.pilvaust.specs.Goals.{ProgramReady, Answers}
+use Rattle.pilvaust.specs.Tables.{GoalInTable, GoalTabled, SheetTabled}
+use Rattle.pilvaust.specs.Goals.{ProgramReady, OutcomeWritten}
 use Rattle.output.specs.declared.results.Written.{Written}
 use Rattle.pilvaust.specs.declared.reading.GoalRead.{GoalRead}
 use Rattle.pilvaust.proofs.ReadingLaws.{never}
 use Rattle.pilvaust.proofs.Checking.{goal-of, standing, fine-none, fault-some, goal-refused-by, goal-stands-at, checked-over}
-use Rattle.output.specs.Results.{Stops, EndsWith}
+use Rattle.output.specs.Results.{RunRefused, RunEnded}
 
 -- ---- the words of a goal's variables
 
@@ -58,8 +58,8 @@ module _ {sheet table : List ℕ} {k : ℕ} {goal goals : List ℕ} {literals co
     names_are = w.names_are ∙ ap (λ (l : List ℕ). names_from goal l 0 count) (sym (last-met goals));
   }
 
-  pub part-runs : {allowance wanted : ℕ} {old new : List ℕ} {r : Written} → ((w : Programmed sheet table k goal goals literals (last-words goals) count) → Runs w.tables.sh w.tables.g allowance wanted old new r)
-      → (w : Programmed sheet table k goal goals literals (met goals) count) → Runs w.tables.sh w.tables.g allowance wanted old new r
+  pub part-runs : {allowance wanted : ℕ} {old new : List ℕ} {r : Written} → ((w : Programmed sheet table k goal goals literals (last-words goals) count) → RunWritten w.tables.sh w.tables.g allowance wanted old new r)
+      → (w : Programmed sheet table k goal goals literals (met goals) count) → RunWritten w.tables.sh w.tables.g allowance wanted old new r
   unfolding part-programmed
   part-runs f w = f (part-programmed w)
 
@@ -74,7 +74,7 @@ goal_short s g e = by (leb (length s) goal_bytes) refl e
     by false t e1 = absurd (never TooLong g e1)
 
 -- a refusal writes nothing
-pub stopped-answers : (o : RunOutcome) (t : Text) (q : Refusal) → o ≡ stopped t q → (u : Result Written Fault) → Stops t q u → (old : List ℕ) → Answers o old old u
+pub stopped-answers : (o : RunOutcome) (t : Text) (q : Refusal) → o ≡ stopped t q → (u : Result Written Fault) → RunRefused t q u → (old : List ℕ) → OutcomeWritten o old old u
 unfolding run_answer run_text
 stopped-answers o t q e u eu old =
     record {
@@ -84,7 +84,7 @@ stopped-answers o t q e u eu old =
     }
 
 module _ (s declared : List ℕ) (n : ℕ) (table : List ℕ) (k : ℕ) where
-  abbrev over-of : ProgramReady s declared n table k → Over s declared n k
+  abbrev over-of : ProgramReady s declared n table k → SheetTabled s declared n k
   over-of w = record { sheet = w.stands.sheet; has = w.stands.has_declarations; count = w.stands.declarations_count; clauses = w.stands.clauses_count; stand = w.stands.stands.declarations }
 
   pub ready-declarations : ProgramReady s declared n table k → DeclarationsAt s declared n
@@ -95,8 +95,8 @@ module _ (s declared : List ℕ) (n : ℕ) (table : List ℕ) (k : ℕ) where
     abbrev outcome : ProgramReady s declared n table k → List ℕ → RunOutcome
     outcome w old = over_goal w.stands.sheet allowance wanted (length old) (checked_goal w.stands.sheet g)
 
-    pub goal-stops : (f : Fault) → GoalTabled g goals (Err f) → (u : Result Written Fault) → Stops f.text f.refusal u → (old : List ℕ) (w : ProgramReady s declared n table k)
-        → Answers (outcome w old) old old u
+    pub goal-stops : (f : Fault) → GoalTabled g goals (Err f) → (u : Result Written Fault) → RunRefused f.text f.refusal u → (old : List ℕ) (w : ProgramReady s declared n table k)
+        → OutcomeWritten (outcome w old) old old u
     unfolding checked_goal checked_goal_from over_goal
     goal-stops f t u eu old w =
         let o : (goal_outcome g ≡ refused f.refusal) × (f.text ≡ in_goal) = goal-refused-by (goal_outcome g) f.text f.refusal (sym t) in
@@ -139,21 +139,21 @@ module _ (s declared : List ℕ) (n : ℕ) (table : List ℕ) (k : ℕ) where
         goal-checked : (w : ProgramReady s declared n table k) → ck ≡ checked_of (goal_fault w.stands.sheet the-goal)
         goal-checked w = checked-over s declared n k g goals r t ck ec (over-of w)
 
-        pub fault-stops : (q : Refusal) → ck ≡ Err q → (u : Result Written Fault) → Stops in_goal q u → (old : List ℕ) (w : ProgramReady s declared n table k)
-            → Answers (outcome w old) old old u
+        pub fault-stops : (q : Refusal) → ck ≡ Err q → (u : Result Written Fault) → RunRefused in_goal q u → (old : List ℕ) (w : ProgramReady s declared n table k)
+            → OutcomeWritten (outcome w old) old old u
         unfolding checked_goal checked_goal_from faultless over_goal
         fault-stops q h u eu old w =
             let o : checked_goal w.stands.sheet g ≡ refused q = ap (checked_goal_from w.stands.sheet) (goal-of s declared n k g goals r t).1 ∙ ap (faultless the-goal) (fault-some (goal_fault w.stands.sheet the-goal) q (sym h ∙ goal-checked w)) in
             stopped-answers (outcome w old) in_goal q (ap (over_goal w.stands.sheet allowance wanted (length old)) o) u eu old
 
         pub goal-runs : ck ≡ Ok tt → length goals ≤ goal_words → (x : Written) (old new : List ℕ)
-            → ((p : Programmed s table k g goals r.literals (met goals) r.count) → Runs p.tables.sh p.tables.g allowance wanted old new x)
-            → (v : Result Written Fault) → EndsWith x.report x.bytes v → (w : ProgramReady s declared n table k) → Answers (outcome w old) old new v
+            → ((p : Programmed s table k g goals r.literals (met goals) r.count) → RunWritten p.tables.sh p.tables.g allowance wanted old new x)
+            → (v : Result Written Fault) → RunEnded x.report x.bytes v → (w : ProgramReady s declared n table k) → OutcomeWritten (outcome w old) old new v
         unfolding checked_goal checked_goal_from faultless over_goal reported run_answer run_text goal-programmed
         goal-runs h short x old new f v ev w =
             let o : checked_goal w.stands.sheet g ≡ accepted the-goal = ap (checked_goal_from w.stands.sheet) (goal-of s declared n k g goals r t).1 ∙ ap (faultless the-goal) (fine-none (goal_fault w.stands.sheet the-goal) (sym h ∙ goal-checked w)) in
             let c : outcome w old ≡ reported (run w.stands.sheet the-goal allowance wanted (length old)) = ap (over_goal w.stands.sheet allowance wanted (length old)) o in
-            let u : Runs w.stands.sheet the-goal allowance wanted old new x = f (goal-programmed short w) in
+            let u : RunWritten w.stands.sheet the-goal allowance wanted old new x = f (goal-programmed short w) in
             record {
               is = ev.0 ∙ (ap Ended-by u.is ∙ sym (ap run_answer c));
               bytes_is = ev.1 ∙ (u.bytes_is ∙ sym (ap (λ (y : RunOutcome). length (run_text y)) c));

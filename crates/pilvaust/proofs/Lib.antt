@@ -1,4 +1,4 @@
-pub mod Demand3
+pub mod NothingOpen
 pub mod RunLaws
 pub mod Listings
 pub mod DeterminateLaws

@@ -26,7 +26,7 @@ use Rattle.syntax.specs.declared.Counts.{Counts}
 use Rattle.syntax.specs.declared.Fault.{Fault}
 use Rattle.parse.specs.declared.Parsed.{Parsed}
 use Rattle.parse.specs.Sheets.{GoalGiven, GoalParses}
-use Rattle.words.specs.Tables.{Has}
+use Rattle.words.specs.Tables.{WordsAt}
 use Rattle.words.proofs.TablesLaws.{has_left, has_right, has-inside, has-taken}
 use Rattle.pilvaust.specs.Tables.{Tabled, GoalTabled}
 use Rattle.output.specs.Listings.{entry_words}
@@ -39,7 +39,7 @@ use Rattle.marks.proofs.Accepted.{goal_stands}
 abbrev entry : ℕ → ℕ → ℕ → OptionOf Entry
 entry a l m = Some (record { at = a; len = l; arguments = m })
 
-one_entry : (declared : List ℕ) (d : Declaration) (n p q : ℕ) → q ≡ p → Has declared p (declaration_words d) → entry (d.at) (length d.name) (length d.marks) ≡ cond (leb (suc n) 0) None (entry (get_or declared q 0) (get_or declared (q + 1) 0) (get_or declared (q + 2) 0))
+one_entry : (declared : List ℕ) (d : Declaration) (n p q : ℕ) → q ≡ p → WordsAt declared p (declaration_words d) → entry (d.at) (length d.name) (length d.marks) ≡ cond (leb (suc n) 0) None (entry (get_or declared q 0) (get_or declared (q + 1) 0) (get_or declared (q + 2) 0))
 unfolding declaration_words
 one_entry declared d n p q e h =
     let p1 : q + 1 ≡ p + 1 = omega arith in
@@ -52,11 +52,11 @@ one_entry declared d n p q e h =
 later : (declared : List ℕ) (n i q : ℕ) → cond (leb (suc n) (suc i)) None (entry (get_or declared q 0) (get_or declared (q + 1) 0) (get_or declared (q + 2) 0)) ≡ cond (leb n i) None (entry (get_or declared q 0) (get_or declared (q + 1) 0) (get_or declared (q + 2) 0))
 later declared n i q = ap (λ (b : Bool). cond b None (entry (get_or declared q 0) (get_or declared (q + 1) 0) (get_or declared (q + 2) 0))) (leb-suc-suc n i)
 
-pub entry-from : (declared : List ℕ) (ds : List Declaration) (p i q : ℕ) → q ≡ p + declaration_size * i → Has declared p (declarations_words ds) → nth_entry ds i ≡ cond (leb (length ds) i) None (entry (get_or declared q 0) (get_or declared (q + 1) 0) (get_or declared (q + 2) 0))
+pub entry-from : (declared : List ℕ) (ds : List Declaration) (p i q : ℕ) → q ≡ p + declaration_size * i → WordsAt declared p (declarations_words ds) → nth_entry ds i ≡ cond (leb (length ds) i) None (entry (get_or declared q 0) (get_or declared (q + 1) 0) (get_or declared (q + 2) 0))
 unfolding nth_entry declarations_words declaration_words
 entry-from declared [] p i q e h = simp (le-leb 0 i (omega arith))
 entry-from declared (d ∷ ds) p zero q e h =
-    let first : Has declared p (declaration_words d) = has_left declared p (declaration_words d) (declarations_words ds) h in
+    let first : WordsAt declared p (declaration_words d) = has_left declared p (declaration_words d) (declarations_words ds) h in
     let here : q ≡ p = omega arith in
     one_entry declared d (length ds) p q here first
 entry-from declared (d ∷ ds) p (suc i) q e h =
@@ -64,7 +64,7 @@ entry-from declared (d ∷ ds) p (suc i) q e h =
     entry-from declared ds (p + declaration_size) i q (omega arith) (has_right declared p (declaration_words d) (declarations_words ds) h) ∙ sym (later declared (length ds) i q)
 
 -- words that stand in a table are no longer than it
-pub long-by : (declared ws : List ℕ) → Has declared 0 ws → length ws ≤ length declared
+pub long-by : (declared ws : List ℕ) → WordsAt declared 0 ws → length ws ≤ length declared
 long-by declared [] h = omega arith
 long-by declared (w ∷ ws) h = let i : 0 + length (w ∷ ws) ≤ length declared = has-inside declared 0 (w ∷ ws) h (omega arith) in omega arith
 
@@ -99,8 +99,8 @@ module _ (s declared table : List ℕ) (v : Verdict) (e : v ≡ read_verdict s) 
     tabled : Tabled s declared table of.0
     tabled = holds of.0 of.1
 
-    words-has : Has declared 0 (declarations_words of.0.declarations)
-    words-has = subst (λ (x : Sheet). Has declared 0 (declarations_words x.declarations)) tabled.is tabled.stands.has_declarations
+    words-has : WordsAt declared 0 (declarations_words of.0.declarations)
+    words-has = subst (λ (x : Sheet). WordsAt declared 0 (declarations_words x.declarations)) tabled.is tabled.stands.has_declarations
 
     pub entries-long : declaration_size * n ≤ length declared
     entries-long = let l : length (declarations_words of.0.declarations) ≤ length declared = long-by declared (declarations_words of.0.declarations) words-has in let f4 : length (declarations_words of.0.declarations) ≡ declaration_size * length of.0.declarations = four-words of.0.declarations in let c : n ≡ length of.0.declarations = of.2 in omega arith
@@ -174,6 +174,6 @@ unfolding read_goal_verdict goal_verdict
 goal-verdict s table (Err f) h = h
 goal-verdict s table (Ok r) h = ap goal_verdict (sym h.1)
 
-pub goal-held : (s table : List ℕ) (r : Result GoalRead Fault) → GoalTabled s table r → (g : Goal) → goal_outcome s ≡ accepted g → Has table 0 (body_words g.body)
+pub goal-held : (s table : List ℕ) (r : Result GoalRead Fault) → GoalTabled s table r → (g : Goal) → goal_outcome s ≡ accepted g → WordsAt table 0 (body_words g.body)
 goal-held s table (Err f) h g e = absurd (goal-none f g (h ∙ ap goal_verdict e))
-goal-held s table (Ok r) h g e = subst (λ (x : Goal). Has table 0 (body_words x.body)) (same-goal h.0 g (sym h.1 ∙ e)) h.2.has
+goal-held s table (Ok r) h g e = subst (λ (x : Goal). WordsAt table 0 (body_words x.body)) (same-goal h.0 g (sym h.1 ∙ e)) h.2.has

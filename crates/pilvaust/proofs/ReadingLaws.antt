@@ -1,4 +1,4 @@
--- Laws of reading a sheet whole: one for each way out of `load`. Assumes nothing.
+-- Laws of reading a sheet whole: one for each way out of `pilvaust::reading::read_text`. Assumes nothing.
 use Prim.Native.Nat.{ℕ, ◌*◌, ◌≤◌, ◌<◌}
 use native.Mathlib.Omega.{arith}
 use mathlib.Core.Path.{◌≡◌, refl, sym, ap, ap₂, ◌∙◌, subst}
@@ -24,7 +24,7 @@ use Rattle.parse.specs.Sheets.{LoadGiven, Parses}
 use Rattle.parse.specs.declared.sheets.SheetParsed.{SheetParsed}
 use Rattle.parse.specs.declared.sheets.SheetFault.{SheetFault}
 use Rattle.syntax.specs.declared.Fault.{Fault}
-use Rattle.words.specs.Tables.{Has}
+use Rattle.words.specs.Tables.{WordsAt}
 use Rattle.marks.specs.Tables.{DeclarationsAt, SheetAt}
 use Rattle.marks.specs.Repeating.{repeat_of}
 use Rattle.pilvaust.specs.Tables.{Tabled}
@@ -77,10 +77,10 @@ module _ (s declared table : List ℕ) (short : length s ≤ sheet_bytes) where
     read : (sh : Sheet) × (end : Cursor) × (read_sheet s ≡ ok sh end) × LoadGiven declared table r sh
     read = read_by (read_sheet s) refl g
 
-    has_declarations : Has declared 0 (declarations_words read.0.declarations)
+    has_declarations : WordsAt declared 0 (declarations_words read.0.declarations)
     has_declarations = has-taken declared (declaration_size * r.declarations) (declarations_words read.0.declarations) read.3.holds.declared_is
 
-    has_clauses : Has table 0 (clauses_words read.0.clauses)
+    has_clauses : WordsAt table 0 (clauses_words read.0.clauses)
     has_clauses = has-taken table r.used (clauses_words read.0.clauses) read.3.holds.table_is
 
     pub declarations-at : DeclarationsAt s declared r.declarations

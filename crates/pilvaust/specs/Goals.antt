@@ -18,7 +18,7 @@ pub record ProgramReady (s declared : List ℕ) (n : ℕ) (table : List ℕ) (k 
   pub table_short : length table ≤ program_words
 
 -- what a run gives, how many bytes it writes, and what it writes over a text
-pub record Answers (o : RunOutcome) (old new : List ℕ) (r : Result Written Fault) : Type 0 where
+pub record OutcomeWritten (o : RunOutcome) (old new : List ℕ) (r : Result Written Fault) : Type 0 where
   pub is : run_of r ≡ run_answer o
   pub bytes_is : bytes_of r ≡ length (run_text o)
   pub text_is : new ≡ sets old 0 (run_text o)

@@ -5,13 +5,15 @@ ghost use Rattle.syntax.specs.Limits.{declarations};
 ghost use Rattle.syntax.specs.Words.{declared_words};
 ghost use Rattle.syntax.specs.Verdicts.{sheet_of, read_verdict};
 ghost use Rattle.mode_rules.specs.Checking.{checked_sheet, check_verdict};
-ghost use Rattle.output.specs.Listings.{overlay, declared_of, entry_from, pasted};
+ghost use Rattle.output.specs.Listings.{overlay, declared_of, pasted};
+ghost use Rattle.words.specs.Tables.{entry_from};
 
 use crate::{check_listing, read_listing};
-use output::listings::{Listing, entry_at};
+use output::listings::Listing;
 use syntax::{Entry, Verdict};
+use words::tables::entry_at;
 
-// A listing's entries into the list; its verdict is returned.
+// Writes a listing's entries into the list and returns its verdict.
 fn fill(found: Listing, entries: &mut [Entry]) -> Verdict
     requires { (declared_words ≡ length found.words) × ((found.count ≤ declarations) × (found.count ≤ length entries.old)) }
     ensures { (result ≡ found.verdict) × (entries.new ≡ pasted (entry_from found.words) found.count entries.old) }
@@ -22,7 +24,7 @@ fn fill(found: Listing, entries: &mut [Entry]) -> Verdict
     found.verdict
 }
 
-// Reads a sheet; when it is accepted, the entries of its declarations, in sheet order, as far as the list goes.
+/// Reads a sheet. Where it is accepted, the entries of its declarations are written, in sheet order, as far as the list goes; later entries stay as they were.
 pub fn read_entries(sheet: &[u8], entries: &mut [Entry]) -> Verdict
     ensures { (result ≡ read_verdict sheet.now) × (entries.new ≡ overlay entries.old
         (declared_of (sheet_of sheet.now))) }
@@ -30,7 +32,7 @@ pub fn read_entries(sheet: &[u8], entries: &mut [Entry]) -> Verdict
     fill(read_listing(sheet, entries.len()), entries)
 }
 
-// The same of a sheet that is checked. (What the two share is `fill`; the rest of each is one call.)
+/// Checks a sheet. Where it is accepted, the entries of its declarations are written, in sheet order, as far as the list goes; later entries stay as they were.
 pub fn check_entries(sheet: &[u8], entries: &mut [Entry]) -> Verdict
     ensures { (result ≡ check_verdict sheet.now)
         × (entries.new ≡ overlay entries.old (declared_of (checked_sheet sheet.now))) }

@@ -1,4 +1,4 @@
-// A sheet and a goal in tables: read into words, the sheet held against its marks.
+// A sheet and a goal read into words of tables, and a sheet held against its marks.
 
 ghost use Rattle.std.specs.Prelude.{◌≡◌, ◌≤◌, ◌<◌, ◌^◌, length};
 ghost use Rattle.syntax.specs.Words.{sheet_words, goal_words, declared_words};
@@ -21,9 +21,8 @@ fn fault_in(text: Text, refusal: Refusal) -> Fault
     Fault { text, refusal }
 }
 
-// A sheet into its tables. (By `match`, here and below: an arm says its fault, where `map_err` would say it in a closure, whose promise the proof has to take
-// up first.)
-pub fn read_text(sheet: &[u8], declared: &mut [u32], table: &mut [u32]) -> Verdict
+/// Reads a sheet into its tables: accepted with its counts, or the refusal, 2 to 7. `declared` takes the declarations, `table` the clauses.
+pub(crate) fn read_text(sheet: &[u8], declared: &mut [u32], table: &mut [u32]) -> Verdict
     requires { (declared_words ≤ length declared.old) × ((sheet_words ≤ length table.old) × (length table.old < 2 ^ 31)) }
     ensures is { result ≡ read_verdict sheet.now }
     ensures holds { (sh : Sheet) → sheet_of sheet.now ≡ accepted sh → Tabled sheet.now declared.new
@@ -51,15 +50,15 @@ pub fn read_text(sheet: &[u8], declared: &mut [u32], table: &mut [u32]) -> Verdi
     }
 }
 
-// A goal that was read: how many literals it has, and how many variables; their first occurrences stand in the last words of the table.
+/// A goal that was read: how many literals it has, and how many variables (`count`), whose first occurrences stand in the last words of the table.
 #[derive(Clone, Copy)]
-pub struct GoalRead {
+pub(crate) struct GoalRead {
     pub literals: usize,
     pub count: usize,
 }
 
-// A goal into its table.
-pub fn read_goal_text(goal: &[u8], table: &mut [u32]) -> Result<GoalRead, Fault>
+/// Reads a goal into its table, or gives its refusal, 2 to 6.
+pub(crate) fn read_goal_text(goal: &[u8], table: &mut [u32]) -> Result<GoalRead, Fault>
     requires { (goal_words ≤ length table.old) × (length table.old < 2 ^ 31) }
     ensures { GoalTabled goal.now table.new result }
 {
@@ -75,8 +74,14 @@ pub fn read_goal_text(goal: &[u8], table: &mut [u32]) -> Result<GoalRead, Fault>
     }
 }
 
-// A sheet into its tables, held against its marks. One stored earlier may have declared predicates without clauses.
-pub fn read_checked(sheet: &[u8], declared: &mut [u32], table: &mut [u32], stored: bool) -> Verdict
+/// Reads a sheet into its tables and holds it against its marks: accepted with its counts, or the refusal, 2 to 10 or 16. With the mark `stored`, for a sheet
+/// stored earlier, declared predicates may have no clause.
+pub(crate) fn read_checked(
+    sheet: &[u8],
+    declared: &mut [u32],
+    table: &mut [u32],
+    stored: bool,
+) -> Verdict
     requires { (declared_words ≤ length declared.old) × ((sheet_words ≤ length table.old) × (length table.old < 2 ^ 31)) }
     ensures is { result ≡ verdict_with stored sheet.now }
     ensures holds { (sh : Sheet) → checked_with stored sheet.now ≡ accepted sh

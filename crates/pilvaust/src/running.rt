@@ -3,11 +3,11 @@
 ghost use Rattle.std.specs.Prelude.{◌≤◌, length};
 ghost use Rattle.syntax.specs.Limits.{variables};
 ghost use Rattle.syntax.specs.Spans.{met};
-ghost use Rattle.run.specs.Running.{Runs};
+ghost use Rattle.run.specs.Running.{RunWritten};
 ghost use Rattle.run.specs.Programs.{Programmed};
 ghost use Rattle.mode_rules.specs.Checking.{checked_goal};
 ghost use Rattle.machine.specs.Runs.{over_goal};
-ghost use Rattle.pilvaust.specs.Goals.{ProgramReady, Answers};
+ghost use Rattle.pilvaust.specs.Goals.{ProgramReady, OutcomeWritten};
 
 use crate::reading::read_goal_text;
 use load::node_words::{ReadGoal, ReadSheet};
@@ -16,7 +16,7 @@ use output::results::{Written, goal_refused, run_ended};
 use run::loaded_runs::load_and_run;
 use syntax::{Fault, GOAL_WORDS, RunSettings, VARIABLES};
 
-// A goal that was read into its table, with the words of its variables last, run over a sheet that was read.
+// Runs a goal that was read into its table, with the words of its `count` variables last, over a sheet that was read.
 fn check_goal_and_run(
     sheet: ReadSheet<'_>,
     goal: ReadGoal<'_>,
@@ -28,7 +28,7 @@ fn check_goal_and_run(
     requires variables_in_bounds { variables ≤ length goal.table.now }
     requires programmed { Programmed sheet.text.now sheet.table.now sheet.clauses goal.text.now goal.table.now goal.literals (met goal.table.now) count }
     ensures { (w : Programmed sheet.entry.text.now sheet.entry.table.now sheet.entry.clauses goal.entry.text.now goal.entry.table.now goal.entry.literals
-        (met goal.entry.table.now) count) → Runs w.tables.sh w.tables.g allowance wanted text.old text.new result }
+        (met goal.entry.table.now) count) → RunWritten w.tables.sh w.tables.g allowance wanted text.old text.new result }
 {
     let from = goal.table.len() - VARIABLES;
     load_and_run(
@@ -42,8 +42,9 @@ fn check_goal_and_run(
     )
 }
 
-// A goal run as asked over a checked sheet that stands in its tables. (By `match`, as `pilvaust::reading::read_text`.)
-pub fn read_goal_and_run(
+/// Reads a goal, checks it and runs it as asked over a checked sheet that stands in its tables, with `k` clauses: the report and how many bytes are written, or
+/// the goal's refusal, 2 to 6, 8 or 9.
+pub(crate) fn read_goal_and_run(
     declarations: Declarations<'_>,
     table: &[u32],
     k: usize,
@@ -53,7 +54,7 @@ pub fn read_goal_and_run(
 ) -> Result<Written, Fault>
     requires { ProgramReady declarations.text.now declarations.words.now declarations.count table.now k }
     ensures { (w : ProgramReady declarations.entry.text.now declarations.entry.words.now declarations.entry.count table.now k)
-        → Answers (over_goal w.stands.sheet asked.allowance asked.wanted (length text.old) (checked_goal w.stands.sheet goal.now))
+        → OutcomeWritten (over_goal w.stands.sheet asked.allowance asked.wanted (length text.old) (checked_goal w.stands.sheet goal.now))
         text.old text.new result }
 {
     let mut goals = [0; GOAL_WORDS];

@@ -9,8 +9,8 @@ use lib.ListN.{length, take, get_or-append}
 use lib.Seq.{length-take-le, get_or-take}
 use borrow.Author.Tests.{ne_eqb}
 use Rattle.syntax.specs.Terms.{Sheet, Goal}
-use Rattle.syntax.specs.declared.Kind.{Kind}
-use Rattle.syntax.specs.declared.Kind.TheVariants.{Wanted, Done, Steps, Deep}
+use Rattle.syntax.specs.declared.RunEnd.{RunEnd}
+use Rattle.syntax.specs.declared.RunEnd.TheVariants.{Wanted, Done, Steps, Deep}
 use Rattle.std.specs.Prelude.{Option, Some, None}
 use Rattle.run.specs.Ends.{ended_by}
 use Rattle.machine.specs.Machine.{Alternative}
@@ -27,7 +27,7 @@ use Rattle.answers.specs.Fitting.{Answerable, SomeAnswerable, Fitted}
 use Rattle.bindings.specs.Scratch.{SameMarks, Roomy}
 use Rattle.run.specs.Meanings.{Meaning, pile_in, PiledIn}
 use Rattle.run.specs.Steps.{Running, meaning, Steppable, Stepped}
-use Rattle.run.specs.declared.alternatives.Pile.{Pile}
+use Rattle.run.specs.declared.alternatives.PileHeight.{PileHeight}
 use Rattle.run.specs.declared.telling.LoadedProgram.{LoadedProgram}
 use Rattle.run.specs.declared.telling.Next.{Next}
 use Rattle.run.specs.declared.telling.Next.TheVariants.{End, Answer, Step}
@@ -45,7 +45,7 @@ empty-is ss sh g nodes code state zero = refl
 empty-is ss sh g nodes code state (suc h) = sym (ne_eqb (suc h) 0 (λ e. omega arith))
 
 -- an end that the counts tell, or what comes else
-abbrev onward : Option Kind → Next → Next
+abbrev onward : Option RunEnd → Next → Next
 onward (Some k) rest = End k
 onward None rest = rest
 
@@ -55,7 +55,7 @@ by-counts false true c rest = refl
 by-counts false false true rest = refl
 by-counts false false false rest = refl
 
-module _ {nodes code state : List ℕ} {h n : ℕ} (wanted answers left : ℕ) {s : Option Kind} (e : s ≡ ended_by h wanted answers left) (w : Running nodes code state h n) where
+module _ {nodes code state : List ℕ} {h n : ℕ} (wanted answers left : ℕ) {s : Option RunEnd} (e : s ≡ ended_by h wanted answers left) (w : Running nodes code state h n) where
   abbrev pile : List Alternative
   pile = pile_in (meaning w) state h
 
@@ -70,13 +70,13 @@ module _ {nodes code state : List ℕ} {h n : ℕ} (wanted answers left : ℕ) {
   next-by =
       ap (λ (x : Bool). cond x (End Done) (cond (leb wanted answers) (End Wanted) (cond (eqb left 0) (End Steps) (rest (is_answer pile) (goes_deeper w.sh pile))))) (empty-is w.ss w.sh w.g nodes code state h)
       ∙ by-counts (eqb h 0) (leb wanted answers) (eqb left 0) (rest (is_answer pile) (goes_deeper w.sh pile))
-      ∙ ap (λ (x : Option Kind). onward x (rest (is_answer pile) (goes_deeper w.sh pile))) (sym e)
+      ∙ ap (λ (x : Option RunEnd). onward x (rest (is_answer pile) (goes_deeper w.sh pile))) (sym e)
 
-  pub next-over : {k : Kind} → s ≡ Some k → End k ≡ next
-  next-over q = sym (next-by ∙ ap (λ (x : Option Kind). onward x (rest (is_answer pile) (goes_deeper w.sh pile))) q)
+  pub next-over : {k : RunEnd} → s ≡ Some k → End k ≡ next
+  next-over q = sym (next-by ∙ ap (λ (x : Option RunEnd). onward x (rest (is_answer pile) (goes_deeper w.sh pile))) q)
 
   next-open : (a d : Bool) → s ≡ None → a ≡ is_answer pile → d ≡ goes_deeper w.sh pile → next ≡ rest a d
-  next-open a d q ea ed = next-by ∙ ap (λ (x : Option Kind). onward x (rest (is_answer pile) (goes_deeper w.sh pile))) q ∙ ap₂ rest (sym ea) (sym ed)
+  next-open a d q ea ed = next-by ∙ ap (λ (x : Option RunEnd). onward x (rest (is_answer pile) (goes_deeper w.sh pile))) q ∙ ap₂ rest (sym ea) (sym ed)
 
   pub next-answer : s ≡ None → true ≡ is_answer pile → Answer ≡ next
   next-answer q ea = sym (next-open true (goes_deeper w.sh pile) q ea refl)
@@ -198,7 +198,7 @@ module _ {loaded : LoadedProgram} {state scratch text : List ℕ} {h n at : ℕ}
             later_long = y.long;
           }
 
-      pub answer-on : {scratch1 : List ℕ} {past : ℕ} (y : SameMarks scratch scratch1) → r ≡ Some past → (after later : List ℕ) (p : Pile) → ((v : Steppable m.nodes m.code mid.now scratch1 h trail) → Stepped (meaning v.running) mid.now after scratch1 later h p) → Answered w after later new (record { at = Some past; height = p.height; trail = p.trail })
+      pub answer-on : {scratch1 : List ℕ} {past : ℕ} (y : SameMarks scratch scratch1) → r ≡ Some past → (after later : List ℕ) (p : PileHeight) → ((v : Steppable m.nodes m.code mid.now scratch1 h trail) → Stepped (meaning v.running) mid.now after scratch1 later h p) → Answered w after later new (record { at = Some past; height = p.height; trail = p.trail })
       unfolding answer-steps
       answer-on {scratch1} {past} y z after later p k =
           let s : Stepped m mid.now after scratch1 later h p = k (answer-steps x y) in

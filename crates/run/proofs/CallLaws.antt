@@ -17,7 +17,7 @@ use Rattle.machine.specs.Machine.{Pending, Alternative, pending, is_for, next_fo
 use Rattle.machine.specs.Runs.{is_there, tries_with, tries_first, goes_deeper}
 use Rattle.run_layout.specs.Regions.{copy_cells, places, bodies, state_words, frame_of, alternative_of, literal_size, next_literal, frame_size, alternative_size, most_alternatives, clause_record}
 use Rattle.run_layout.specs.Nodes.{Symbol, TermLoaded}
-use Rattle.run_layout.specs.State.{copy_of, cell_at, trail_at, bindings, Within}
+use Rattle.run_layout.specs.State.{copy_of, cell_at, trail_at, bindings, WithinCopies}
 use Rattle.run_layout.specs.Program.{head_at, body_at, after_at, record_kind, record_place, other_at}
 use Rattle.run_layout.specs.Pile.{Calls, rest_from, left_from, calls_up_to, copy_at, literal_at, next_at, mark_at, path_at, alternative_at, pile_of, NextFor, Piled}
 use Rattle.bindings.specs.Queues.{Closed}
@@ -25,9 +25,9 @@ use Rattle.bindings.proofs.Apart.{closed-within}
 use Rattle.unify.specs.Turns.{answered, Unifiable, UnifyGives}
 use Rattle.unify.specs.declared.solve.UnifyAnswer.{UnifyAnswer}
 use Rattle.run.specs.Words.{next_words, frame_words}
-use Rattle.run.specs.Moves.{Layable, Lays, Tryable, Comes, rest_at, tried_on}
+use Rattle.run.specs.Moves.{Layable, AlternativeLaid, Tryable, ClauseTried, rest_at, tried_on}
 use Rattle.run.specs.Steps.{meaning, Steppable, Stepped}
-use Rattle.run.specs.declared.alternatives.Pile.{Pile}
+use Rattle.run.specs.declared.alternatives.PileHeight.{PileHeight}
 use Rattle.run.proofs.WordLaws.{add-one, next-written, frame-framed}
 use Rattle.run.proofs.LayLaws.{LayEnds}
 use Rattle.run.proofs.TopLaws.{trail_low, lays-stand, lays-written, head-eq, tail-eq, top-stacked, top-stands, top-inside, top-room, step-also, kept}
@@ -35,7 +35,7 @@ use Rattle.run.proofs.WorkLaws.{pops-here}
 use Rattle.run_layout.proofs.Step.{left-first, step-exhausted}
 use Rattle.run_layout.proofs.Pile.{HeadStands, SameFrames, calls_count, path-high, calls-also, clause-low, kind-call, same_rest, same_left, next-for, next-clause, next_low, next-head, Written, Framed, Means, moved, Pushing, pushed-frames, pushed-place, pushed-left, pushed}
 
-within_more : (k n : ℕ) (state : List ℕ) → Within k state n → Within (k + 1) state n
+within_more : (k n : ℕ) (state : List ℕ) → WithinCopies k state n → WithinCopies (k + 1) state n
 within_more k n state w =
     record {
       cell = λ i l. (let z : trail_at state i < (k + 1) * copy_cells = w.cell i l in omega arith);
@@ -110,7 +110,7 @@ module _ (nodes code state scratch : List ℕ) (j k : ℕ) (w : Tryable nodes co
         (ap (λ (y : ℕ). unify (bindings ss nodes state (mark_at state j)) (copied (copy_at state j) (term_of w.atom)) (copied y (term_of w.clause.head))) new_is
         ∙ (unifies.answer (term_of w.atom) (term_of w.clause.head) call_stands head-stands ∙ ap (λ (y : Bool). answered y (bindings ss nodes state1 r.trail)) e))
 
-    pub try-fails-top : r.equal ≡ false → Comes w state1 later (record { height = suc j; trail = r.trail })
+    pub try-fails-top : r.equal ≡ false → ClauseTried w state1 later (record { height = suc j; trail = r.trail })
     unfolding laid answered on_top pile_of
     try-fails-top e =
         let m : Means ss sh g nodes code state1 (suc j) r.trail (pile_of ss sh g nodes code state (suc j)) = kept ss sh g nodes code state j (mark_at state j) w.piled refl state1 r.trail unifies.keeps unifies.store unifies.grows in
@@ -198,15 +198,15 @@ module _ (nodes code state scratch : List ℕ) (j k : ℕ) (w : Tryable nodes co
           ∙ ap (λ (y : ℕ). pending y w.clause.body (rest_at sh g code state j)) (sym new_is)
 
       pub try-core : r.equal ≡ true → (after : List ℕ) → LayEnds code state2 after (suc j) (path_at state j + 1) (body_at code k) r.trail (path_at state j + 1)
-          → Comes w after later (record { height = suc j + 1; trail = r.trail })
+          → ClauseTried w after later (record { height = suc j + 1; trail = r.trail })
       unfolding try-layable-top laid answered on_top pile_of alternative_at
       try-core e after f =
-          let q : Lays try-layable-top.climbing after (suc j) r.trail = f try-layable-top in
+          let q : AlternativeLaid try-layable-top.climbing after (suc j) r.trail = f try-layable-top in
           let m : Means ss sh g nodes code after (suc (suc j)) r.trail (record { literals = left_from sh g code state2 (path_at state j + 1) q.spot.copy q.spot.literal; bindings = bindings ss nodes state1 r.trail; next = q.next; calls = record { copy = copy_at state j; atom = w.atom } ∷ calls_up_to sh g code state (path_at state j) } ∷ pile_of ss sh g nodes code state (suc j)) =
           pushed ss sh g nodes code state state1 state2 j (mark_at state j) r.trail (path_at state j + 1) k w.atom w.clause pushing after q.spot.copy q.spot.literal q.next q.climbs.copy (lays-stand q) (lays-written q room2) in
           let lits : left_from sh g code state2 (path_at state j + 1) q.spot.copy q.spot.literal ≡ pending (suc (length (calls_up_to sh g code state (path_at state j)))) w.clause.body (rest_at sh g code state j) = q.climbs.same ∙ new-left in
           let nxt : q.next ≡ topmost sh (pending (suc (length (calls_up_to sh g code state (path_at state j)))) w.clause.body (rest_at sh g code state j)) = q.next_is ∙ ap (topmost sh) new-left in
-          subst⁻¹ (λ (y : ℕ). Comes w after later (record { height = y; trail = r.trail })) (add-one (suc j))
+          subst⁻¹ (λ (y : ℕ). ClauseTried w after later (record { height = y; trail = r.trail })) (add-one (suc j))
           (record {
             is = m.is ∙ ((λ i. record { literals = lits i; bindings = bindings ss nodes state1 r.trail; next = nxt i; calls = record { copy = copy_at state j; atom = w.atom } ∷ calls_up_to sh g code state (path_at state j) } ∷ pile_of ss sh g nodes code state (suc j))
                 ∙ sym (ap (λ (o : Option Alternative). on_top o (alternative_at ss sh g nodes code state j) ++ pile_of ss sh g nodes code state j) (tried-is true e)));
@@ -369,9 +369,9 @@ module _ (nodes code state scratch : List ℕ) (j : ℕ) (w : Steppable nodes co
           ∙ (ap (λ (o : Option Alternative). on_top o (moved_on sh₁ (alternative_at ss₁ sh₁ g₁ nodes code state j) calling.0) ++ pile_of ss₁ sh₁ g₁ nodes code state j) (tried-moved sh₁ (alternative_at ss₁ sh₁ g₁ nodes code state j) (copy_at state j) calling.0 (rest_at sh₁ g₁ code state j) clause)
           ∙ sym (call_step ∙ ap (λ (o : Option Clause). called sh₁ (alternative_at ss₁ sh₁ g₁ nodes code state j) (copy_at state j) calling.0 (rest_at sh₁ g₁ code state j) o ++ pile_of ss₁ sh₁ g₁ nodes code state j) there))
 
-      pub call-end-top : (after later : List ℕ) (r : Pile) → ((v : Tryable nodes code state1 scratch (suc j) j (next_at state j)) → Comes v after later r)
+      pub call-end-top : (after later : List ℕ) (r : PileHeight) → ((v : Tryable nodes code state1 scratch (suc j) j (next_at state j)) → ClauseTried v after later r)
           → Stepped (meaning w.running) state after scratch later (suc j) r
       unfolding call-tryable-top
       call-end-top after later r k =
-          let m : Comes call-tryable-top after later r = k call-tryable-top in
+          let m : ClauseTried call-tryable-top after later r = k call-tryable-top in
           record { is = m.is ∙ tried-step; piled = m.piled; state_long = m.state_long ∙ written.long; clean = m.clean; scratch_long = m.scratch_long }

@@ -10,8 +10,8 @@ use lib.ListN.{length}
 use borrow.Author.Tests.{leb-false}
 use native.Mathlib.Nat.{add-zero}
 use Rattle.syntax.specs.Terms.{Sheet, Goal}
-use Rattle.syntax.specs.declared.Kind.{Kind}
-use Rattle.syntax.specs.declared.Kind.TheVariants.{Wanted, Done, Steps, Full, Deep}
+use Rattle.syntax.specs.declared.RunEnd.{RunEnd}
+use Rattle.syntax.specs.declared.RunEnd.TheVariants.{Wanted, Done, Steps, Full, Deep}
 use Rattle.machine.specs.Machine.{Pending, Alternative, path, step}
 use Rattle.machine.specs.Runs.{Progress, is_empty, is_answer, next_line, line_with, tries_first, goes_deeper, endings, first_end, one_if, advance, end_or, run_from}
 use Rattle.run.specs.declared.telling.Next.{Next}
@@ -21,11 +21,11 @@ use Rattle.run.specs.Telling.{before_step}
 abbrev next_by : Bool → Bool → Bool → Bool → Bool → Next
 next_by a b c d e = cond b (End Done) (cond a (End Wanted) (cond c (End Steps) (cond d Answer (cond e (End Deep) Step))))
 
-abbrev first_by : Bool → Bool → Bool → Bool → Bool → Option Kind
+abbrev first_by : Bool → Bool → Bool → Bool → Bool → Option RunEnd
 first_by a b c d e =
     elim b [ true ↦ some Done | false ↦ elim a [ true ↦ some Wanted | false ↦ elim c [ true ↦ some Steps | false ↦ elim d [ true ↦ some Full | false ↦ elim e [ true ↦ some Deep | false ↦ none ] ] ] ] ]
 
-end-by : (a b c d e f : Bool) (k : Kind) → next_by a b c d e ≡ End k → first_by a b c (d && f) e ≡ some k
+end-by : (a b c d e f : Bool) (k : RunEnd) → next_by a b c d e ≡ End k → first_by a b c (d && f) e ≡ some k
 end-by a true c d e f k q = cc
 end-by true false c d e f k q = cc
 end-by false false true d e f k q = cc
@@ -33,7 +33,7 @@ end-by false false false true e f k q = absurd (let z : ◌≡◌ {A = ℕ} 0 1 
 end-by false false false false true f k q = cc
 end-by false false false false false f k q = absurd (let z : ◌≡◌ {A = ℕ} 0 1 = cc in omega arith)
 
-record Steady (b c d e : Bool) (o : Option Kind) : Type 0 where
+record Steady (b c d e : Bool) (o : Option RunEnd) : Type 0 where
   some_left : b ≡ false
   more : c ≡ false
   literal : d ≡ false
@@ -48,7 +48,7 @@ step_by false false false true e f q = absurd (let z : ◌≡◌ {A = ℕ} 0 1 =
 step_by false false false false true f q = absurd (let z : ◌≡◌ {A = ℕ} 0 1 = cc in omega arith)
 step_by false false false false false f q = record { some_left = refl; more = refl; literal = refl; flat = refl; none_is = refl }
 
-record Answering (b c d : Bool) (o : Bool → Option Kind) : Type 0 where
+record Answering (b c d : Bool) (o : Bool → Option RunEnd) : Type 0 where
   some_left : b ≡ false
   more : c ≡ false
   answer : d ≡ true
@@ -83,19 +83,19 @@ module _ (sh : Sheet) (g : Goal) (wanted room : ℕ) where
   unfolding before_step
   next_is left p = refl
 
-  from_some : (left : ℕ) (p : Progress) (k : Kind) → first_end (endings sh g wanted room left p) ≡ some k → run_from sh g wanted room left p ≡ record { kind = k; at = p }
+  from_some : (left : ℕ) (p : Progress) (k : RunEnd) → first_end (endings sh g wanted room left p) ≡ some k → run_from sh g wanted room left p ≡ record { kind = k; at = p }
   unfolding run_from end_or
-  from_some zero p k q = ap (λ (o : Option Kind). end_or p o (λ _. record { kind = Steps; at = p })) q
-  from_some (suc left) p k q = ap (λ (o : Option Kind). end_or p o (λ _. run_from sh g wanted room left (advance sh g p))) q
+  from_some zero p k q = ap (λ (o : Option RunEnd). end_or p o (λ _. record { kind = Steps; at = p })) q
+  from_some (suc left) p k q = ap (λ (o : Option RunEnd). end_or p o (λ _. run_from sh g wanted room left (advance sh g p))) q
 
   from-none : (left : ℕ) (p : Progress) → eqb left 0 ≡ false → first_end (endings sh g wanted room left p) ≡ none → run_from sh g wanted room left p ≡ run_from sh g wanted room (left - 1) (advance sh g p)
   unfolding run_from end_or
   from-none zero p z q = absurd (let y : ◌≡◌ {A = Bool} true false = z in let x : ◌≡◌ {A = ℕ} 0 1 = cc in omega arith)
   from-none (suc left) p z q =
       let e : left ≡ suc left - 1 = omega arith in
-      ap (λ (o : Option Kind). end_or p o (λ _. run_from sh g wanted room left (advance sh g p))) q ∙ ap (λ (m : ℕ). run_from sh g wanted room m (advance sh g p)) e
+      ap (λ (o : Option RunEnd). end_or p o (λ _. run_from sh g wanted room left (advance sh g p))) q ∙ ap (λ (m : ℕ). run_from sh g wanted room m (advance sh g p)) e
 
-  pub run_ends : (left : ℕ) (p : Progress) (k : Kind) → before_step wanted p.answers left sh p.pile ≡ End k → run_from sh g wanted room left p ≡ record { kind = k; at = p }
+  pub run_ends : (left : ℕ) (p : Progress) (k : RunEnd) → before_step wanted p.answers left sh p.pile ≡ End k → run_from sh g wanted room left p ≡ record { kind = k; at = p }
   run_ends left p k q = from_some left p k (first-is left p ∙ end-by (leb wanted p.answers) (is_empty p.pile) (eqb left 0) (is_answer p.pile) (goes_deeper sh p.pile) (ltb room (length p.text + length (next_line g p.pile))) k (sym (next_is left p) ∙ q))
 
   -- no line is written by a step that is no answer

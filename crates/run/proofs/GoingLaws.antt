@@ -7,14 +7,14 @@ use mathlib.Core.List.{List}
 use Rattle.std.specs.Prelude.{Some, None}
 use lib.ListN.{length}
 use lib.Seq.{length-sets}
-use Rattle.syntax.specs.declared.Kind.{Kind}
-use Rattle.syntax.specs.declared.Kind.TheVariants.{Full}
+use Rattle.syntax.specs.declared.RunEnd.{RunEnd}
+use Rattle.syntax.specs.declared.RunEnd.TheVariants.{Full}
 use Rattle.machine.specs.Machine.{Alternative}
 use Rattle.machine.specs.Runs.{Ended, goes_deeper, run_from}
 use Rattle.bindings.specs.Queues.{Clean}
 use Rattle.run.specs.Meanings.{Meaning, pile_in}
 use Rattle.run.specs.Steps.{Running, meaning, Steppable, Stepped}
-use Rattle.run.specs.declared.alternatives.Pile.{Pile}
+use Rattle.run.specs.declared.alternatives.PileHeight.{PileHeight}
 use Rattle.run.specs.declared.telling.LoadedProgram.{LoadedProgram}
 use Rattle.run.specs.declared.telling.Next.{Next}
 use Rattle.run.specs.declared.telling.Next.TheVariants.{End, Answer, Step}
@@ -69,7 +69,7 @@ module _ {loaded : LoadedProgram} {first : Words} {t₀ : Carried} {k wanted : �
       unfolding running
       next = e m.nodes running
 
-      pub go-end : (ending : Kind) → r ≡ End ending → Turned m now.state now.scratch w.old now.text end (record { height = t.height; trail = t.trail; answers = t.answers; steps = t.steps; at = t.at; kind = ending })
+      pub go-end : (ending : RunEnd) → r ≡ End ending → Turned m now.state now.scratch w.old now.text end (record { height = t.height; trail = t.trail; answers = t.answers; steps = t.steps; at = t.at; kind = ending })
       go-end ending q = ends (i.on w) ending (sym next ∙ q)
 
       -- a step that is no answer
@@ -93,11 +93,11 @@ module _ {loaded : LoadedProgram} {first : Words} {t₀ : Carried} {k wanted : �
         pub go-more : t.steps < t₀.steps + k
         go-more = step-few (i.on w) stepping
 
-        stepped-on : (state1 scratch1 : List ℕ) (p : Pile) → ((v : Steppable m.nodes m.code now.state now.scratch t.height t.trail) → Stepped (meaning v.running) now.state state1 now.scratch scratch1 t.height p) → Stepped m now.state state1 now.scratch scratch1 t.height p
+        stepped-on : (state1 scratch1 : List ℕ) (p : PileHeight) → ((v : Steppable m.nodes m.code now.state now.scratch t.height t.trail) → Stepped (meaning v.running) now.state state1 now.scratch scratch1 t.height p) → Stepped m now.state state1 now.scratch scratch1 t.height p
         unfolding go-steps running
         stepped-on state1 scratch1 p f = f go-steps
 
-        pub steps-going : (state1 scratch1 : List ℕ) (p : Pile) → ((v : Steppable m.nodes m.code now.state now.scratch t.height t.trail) → Stepped (meaning v.running) now.state state1 now.scratch scratch1 t.height p) → Ongoing m state1 scratch1 end (t₀.steps + k) wanted w.old now.text (record { height = p.height; trail = p.trail; answers = t.answers; steps = t.steps + 1; at = t.at; kind = t.kind })
+        pub steps-going : (state1 scratch1 : List ℕ) (p : PileHeight) → ((v : Steppable m.nodes m.code now.state now.scratch t.height t.trail) → Stepped (meaning v.running) now.state state1 now.scratch scratch1 t.height p) → Ongoing m state1 scratch1 end (t₀.steps + k) wanted w.old now.text (record { height = p.height; trail = p.trail; answers = t.answers; steps = t.steps + 1; at = t.at; kind = t.kind })
         steps-going state1 scratch1 p f =
             let s : Stepped m now.state state1 now.scratch scratch1 t.height p = stepped-on state1 scratch1 p f in
             steps_on (i.on w) stepping state1 scratch1 p.height p.trail s.piled s.is s.clean s.scratch_long

@@ -13,7 +13,7 @@ use Rattle.run_layout.specs.Nodes.{Symbol}
 use Rattle.run_layout.specs.Program.{record_kind, other_at}
 use Rattle.run_layout.specs.Pile.{caller_of, call_of, rest_from, left_behind, left_from, RecordOf, NoJump}
 use Rattle.run.specs.Words.{caller_at, topmost_at, top_words}
-use Rattle.run.specs.Moves.{Settlable, Settles, Climbable, Climbs, Layable, Lays}
+use Rattle.run.specs.Moves.{Settlable, SideEndPassed, Climbable, FirstLeft, Layable, AlternativeLaid}
 use Rattle.run.specs.declared.alternatives.records.Spot.{Spot}
 use Rattle.run.proofs.WordLaws.{topmost-call, topmost-other}
 use Rattle.run_layout.proofs.Step.{Rising, rise, Fresh, fresh}
@@ -37,7 +37,7 @@ module _ {code : List ℕ} {l : ℕ} (w : Settlable code l) where
 
     module _ {v : ℕ} (e : v ≡ record_kind code literal) where
       -- a record that ends no side
-      pub slide-stops : (v ≡ jump_kind → ⊥) → Settles w.sh w.g code w.state w.copy l literal
+      pub slide-stops : (v ≡ jump_kind → ⊥) → SideEndPassed w.sh w.g code w.state w.copy l literal
       slide-stops z = record { here = a.here; place = a.place; stays = λ q. z (e ∙ q); same = a.same }
 
       module _ (q : v ≡ jump_kind) {next : ℕ} (n : next ≡ other_at code literal) where
@@ -57,7 +57,7 @@ module _ {code : List ℕ} {l : ℕ} (w : Settlable code l) where
 
 -- what `settled` promises
 abbrev pub SettleEnds : (code : List ℕ) (l r : ℕ) → Type 0
-SettleEnds code l r = (v : Settlable code l) → Settles v.sh v.g code v.state v.copy l r
+SettleEnds code l r = (v : Settlable code l) → SideEndPassed v.sh v.g code v.state v.copy l r
 
 -- where the same goes on in a copy, the same is left
 same-left-from : (sh : Sheet) (g : Goal) (code state : List ℕ) (k c l r : ℕ) → rest_from sh g code state c r ≡ rest_from sh g code state c l
@@ -83,7 +83,7 @@ module _ {code state : List ℕ} {c l : ℕ} (w : Climbable code state c l) wher
   pub along-begin : {r : ℕ} → SettleEnds code l r → Along w.sh w.g code state w.path c l c r
   unfolding climb-settlable
   along-begin {r} k =
-      let t : Settles w.sh w.g code state c l r = k climb-settlable in
+      let t : SideEndPassed w.sh w.g code state c l r = k climb-settlable in
       record {
         low = omega arith;
         here = λ n e. t.here n;
@@ -110,7 +110,7 @@ module _ {code state : List ℕ} {c l : ℕ} (w : Climbable code state c l) wher
         omega arith
 
     -- a literal stands here
-    pub along-stops : (v : ℕ) → v ≡ record_kind code literal → (v ≡ body_end_kind → ⊥) → Climbs w.sh w.g code state w.path c l (record { copy = copy; literal = literal })
+    pub along-stops : (v : ℕ) → v ≡ record_kind code literal → (v ≡ body_end_kind → ⊥) → FirstLeft w.sh w.g code state w.path c l (record { copy = copy; literal = literal })
     along-stops v e z =
         record {
           copy = a.low;
@@ -122,7 +122,7 @@ module _ {code state : List ℕ} {c l : ℕ} (w : Climbable code state c l) wher
         }
 
     -- the goal is reached
-    pub along-goal : copy ≤ 0 → Climbs w.sh w.g code state w.path c l (record { copy = copy; literal = literal })
+    pub along-goal : copy ≤ 0 → FirstLeft w.sh w.g code state w.path c l (record { copy = copy; literal = literal })
     along-goal z =
         record { copy = a.low; here = a.here; place = a.place; stays = a.stays; ends = λ q. (let e : copy ≡ 0 = omega arith in e); same = a.same }
 
@@ -172,7 +172,7 @@ module _ {code state : List ℕ} {c l : ℕ} (w : Climbable code state c l) {cop
       pub along-next : {r : ℕ} → SettleEnds code i r → Along w.sh w.g code state w.path c l s.copy r
       unfolding along-settlable
       along-next {r} k =
-          let t : Settles w.sh w.g code state s.copy i r = k along-settlable in
+          let t : SideEndPassed w.sh w.g code state s.copy i r = k along-settlable in
           let x : s.copy < copy = along-less in
           let y : copy ≤ c = a.low in
           let up : left_from w.sh w.g code state w.path s.copy i ≡ left_from w.sh w.g code state w.path (caller_of state copy) (next_literal (call_of state copy)) =
@@ -195,8 +195,8 @@ topmost-low ss sh nodes code l (also truth b) s = omega (arith, topmost-other co
 topmost-low ss sh nodes code l (also falsity b) s = omega (arith, topmost-other code l (λ q. omega (arith, q, s)))
 topmost-low ss sh nodes code l (also (either y z) b) s = omega (arith, topmost-other code l (λ q. omega (arith, q, s)))
 
-module _ {code state : List ℕ} {j c l mark path : ℕ} (w : Layable code state j c l mark path) (s : Spot) (k : (v : Climbable code state c l) → Climbs v.sh v.g code state v.path c l s) where
-  spot-climbs : Climbs w.sh w.g code state path c l s
+module _ {code state : List ℕ} {j c l mark path : ℕ} (w : Layable code state j c l mark path) (s : Spot) (k : (v : Climbable code state c l) → FirstLeft v.sh v.g code state v.path c l s) where
+  spot-climbs : FirstLeft w.sh w.g code state path c l s
   spot-climbs = k (record { ss = w.ss; sh = w.sh; g = w.g; nodes = w.nodes; path = path; climbing = w.climbing })
 
   spot-stands : HeadStands w.ss w.sh w.nodes code s.literal (rest_from w.sh w.g code state s.copy s.literal)
@@ -226,7 +226,7 @@ module _ {code state : List ℕ} {j c l mark path : ℕ} (w : Layable code state
     new : Fresh w.sh w.g code state path s.copy s.literal next
     new = fresh w.ss w.sh w.g w.nodes code state path s.copy s.literal next w.climbing.program spot-climbs.place spot-climbs.stays spot-climbs.ends (λ q. is ∙ sym (topmost-call code s.literal q)) (λ z. is ∙ sym (topmost-other code s.literal z))
 
-    pub lay-end : (after : List ℕ) → after ≡ top_words state j s.copy s.literal next mark path → Lays w.climbing after j mark
+    pub lay-end : (after : List ℕ) → after ≡ top_words state j s.copy s.literal next mark path → AlternativeLaid w.climbing after j mark
     lay-end after e =
         record {
           spot = s;
@@ -239,4 +239,4 @@ module _ {code state : List ℕ} {j c l mark path : ℕ} (w : Layable code state
 
 -- what `lay` promises
 abbrev pub LayEnds : (code state after : List ℕ) (j c l mark path : ℕ) → Type 0
-LayEnds code state after j c l mark path = (v : Layable code state j c l mark path) → Lays v.climbing after j mark
+LayEnds code state after j c l mark path = (v : Layable code state j c l mark path) → AlternativeLaid v.climbing after j mark

@@ -11,8 +11,8 @@ use Rattle.std.specs.Prelude.{Option, Some, None}
 use lib.ListN.{length, length-append}
 use borrow.Author.Tests.{ltb-true, ltb-false, lt-ltb, le-ltb}
 use lib.Seq.{sets, length-sets}
-use Rattle.syntax.specs.declared.Kind.{Kind}
-use Rattle.syntax.specs.declared.Kind.TheVariants.{Full}
+use Rattle.syntax.specs.declared.RunEnd.{RunEnd}
+use Rattle.syntax.specs.declared.RunEnd.TheVariants.{Full}
 use Rattle.words.proofs.BuffersLaws.{sets-append}
 use Rattle.machine.specs.Machine.{Alternative, step}
 use Rattle.machine.specs.Low.{Low}
@@ -27,7 +27,7 @@ use Rattle.run.specs.Meanings.{Meaning, pile_in, PiledIn}
 use Rattle.run.specs.declared.telling.Next.TheVariants.{End, Answer, Step}
 use Rattle.answers.specs.Fitting.{Fitted}
 use Rattle.run.specs.Telling.{before_step, Tellable, Under}
-use Rattle.run.specs.Turns.{Ongoing, Carries, Turned}
+use Rattle.run.specs.Turns.{Ongoing, ProgressCarried, Turned}
 use Rattle.run.specs.declared.turns.Carried.{Carried}
 use Rattle.run.proofs.EndLaws.{Goes, Answers, run_ends, run-steps, run-answers}
 use Rattle.run.proofs.LineLaws.{line_of}
@@ -63,7 +63,7 @@ not-over room n l = le-ltb room n l
 over : (room n : ℕ) → room < n → ltb room n ≡ true
 over room n l = lt-ltb room n l
 
-pub begins : {m : Meaning} {state scratch old new : List ℕ} {p : Progress} {t : Carried} (wanted k : ℕ) → Carries m state scratch old new p t → Ongoing m state scratch (run_from m.sh m.g wanted (length old) k p) (t.steps + k) wanted old new t
+pub begins : {m : Meaning} {state scratch old new : List ℕ} {p : Progress} {t : Carried} (wanted k : ℕ) → ProgressCarried m state scratch old new p t → Ongoing m state scratch (run_from m.sh m.g wanted (length old) k p) (t.steps + k) wanted old new t
 begins {m} {old = old} {p = p} {t = t} wanted k c =
     let z : k ≡ t.steps + k - t.steps = omega arith in
     record {
@@ -81,7 +81,7 @@ module _ {m : Meaning} {final : Ended} {allowance wanted : ℕ} {old : List ℕ}
     abbrev here : Progress
     here = record { pile = pile_in m state t.height; answers = t.answers; steps = t.steps; text = o.written }
 
-    pub ends : (k : Kind) → before_step wanted t.answers (allowance - t.steps) m.sh (pile_in m state t.height) ≡ End k → Turned m state scratch old new final (record { height = t.height; trail = t.trail; answers = t.answers; steps = t.steps; at = t.at; kind = k })
+    pub ends : (k : RunEnd) → before_step wanted t.answers (allowance - t.steps) m.sh (pile_in m state t.height) ≡ End k → Turned m state scratch old new final (record { height = t.height; trail = t.trail; answers = t.answers; steps = t.steps; at = t.at; kind = k })
     ends k q =
         subst⁻¹ (λ (x : Ended). Turned m state scratch old new x (record { height = t.height; trail = t.trail; answers = t.answers; steps = t.steps; at = t.at; kind = k })) (o.whole ∙ run_ends m.sh m.g wanted (length old) (allowance - t.steps) here k q)
         (record {

@@ -12,7 +12,7 @@ use Rattle.load.specs.Loading.{Loadable, Loaded}
 use Rattle.load.specs.Linking.{Linkable}
 use Rattle.run.specs.declared.telling.LoadedProgram.{LoadedProgram}
 use Rattle.output.specs.declared.results.Written.{Written}
-use Rattle.run.specs.Running.{Runnable, Runs}
+use Rattle.run.specs.Running.{Runnable, RunWritten}
 use Rattle.run_layout.specs.Rooms.{Zeros}
 use Rattle.run.specs.Programs.{ZeroScratch, Programmed, ProgramLinked}
 
@@ -79,7 +79,7 @@ module _ (l : LoadedProgram) {table : List ℕ} {clauses : ℕ} {goals : List �
         spelt = record { spelt = (loaded w z y a k).names; named = w.named; names_are = w.names_are };
       }
 
-  pub program_runs : {allowance wanted : ℕ} {old new : List ℕ} {r : Written} → ((v : ProgramLinked l) → Runs v.sh v.g allowance wanted old new r) → Runs w.tables.sh w.tables.g allowance wanted old new r
+  pub program_runs : {allowance wanted : ℕ} {old new : List ℕ} {r : Written} → ((v : ProgramLinked l) → RunWritten v.sh v.g allowance wanted old new r) → RunWritten w.tables.sh w.tables.g allowance wanted old new r
   unfolding linked
   program_runs q = q linked
 
@@ -99,6 +99,6 @@ module _ {l : LoadedProgram} (w : ProgramLinked l) where
         lent = record { roomy = omega arith; clean = record { long = omega arith; zero = λ i l. y.zero_words i }; deep = y.tells };
       }
 
-  pub linked_runs : {state scratch text : List ℕ} {allowance wanted : ℕ} {old new : List ℕ} {r : Written} → Zeros state_words state → ZeroScratch scratch (length text) → ((v : Runnable l state scratch text) → Runs v.sh v.g allowance wanted old new r) → Runs w.sh w.g allowance wanted old new r
+  pub linked_runs : {state scratch text : List ℕ} {allowance wanted : ℕ} {old new : List ℕ} {r : Written} → Zeros state_words state → ZeroScratch scratch (length text) → ((v : Runnable l state scratch text) → RunWritten v.sh v.g allowance wanted old new r) → RunWritten w.sh w.g allowance wanted old new r
   unfolding runnable
   linked_runs z y k = k (runnable z y)

@@ -14,9 +14,9 @@ use Rattle.bindings.specs.Queues.{Closed}
 use Rattle.unify.specs.Turns.{Unifiable, UnifyGives}
 use Rattle.unify.specs.declared.solve.UnifyAnswer.{UnifyAnswer}
 use Rattle.run.specs.Words.{top_at, next_words, frame_words}
-use Rattle.run.specs.Moves.{Layable, Tryable, Comes}
+use Rattle.run.specs.Moves.{Layable, Tryable, ClauseTried}
 use Rattle.run.specs.Steps.{meaning, Steppable, Stepped}
-use Rattle.run.specs.declared.alternatives.Pile.{Pile}
+use Rattle.run.specs.declared.alternatives.PileHeight.{PileHeight}
 use Rattle.run.specs.declared.alternatives.records.Top.{Top}
 use Rattle.run_layout.proofs.Pile.{clause-low}
 use Rattle.run.proofs.LayLaws.{LayEnds}
@@ -235,14 +235,14 @@ module _ {nodes code state scratch : List ℕ} {h : ℕ} (w : Steppable nodes co
                 (at_top (λ (h j : ℕ). Steppable nodes code state scratch h (mark_at state j) → record_kind code (literal_at state j) ≡ call_kind → 1 ≤ next_at state j → state1 ≡ next_words state j (after_at code (next_at state j)) → Tryable nodes code state1 scratch h j (next_at state j))
                 (λ j w x y u. call-tryable-top nodes code state scratch j w x y state1 u) h w.some w kind some_next words-is)
 
-            pub call-end : (final later : List ℕ) (r : Pile) → ((v : Tryable nodes code state1 scratch h (h - 1) s.next) → Comes v final later r)
+            pub call-end : (final later : List ℕ) (r : PileHeight) → ((v : Tryable nodes code state1 scratch h (h - 1) s.next) → ClauseTried v final later r)
                 → Stepped (meaning w.running) state final scratch later h r
             call-end final later r k =
                 at_top (λ (h j : ℕ). (w : Steppable nodes code state scratch h (mark_at state j)) → record_kind code (literal_at state j) ≡ call_kind → 1 ≤ next_at state j → state1 ≡ next_words state j (after_at code (next_at state j))
-                → ((v : Tryable nodes code state1 scratch h j (next_at state j)) → Comes v final later r)
+                → ((v : Tryable nodes code state1 scratch h j (next_at state j)) → ClauseTried v final later r)
                 → Stepped (meaning w.running) state final scratch later h r)
                 (λ j w x y u v. call-end-top nodes code state scratch j w x y state1 u final later r v) h w.some w kind some_next words-is
-                (subst (λ (x : ℕ). (v : Tryable nodes code state1 scratch h (h - 1) x) → Comes v final later r) (next_is is) k)
+                (subst (λ (x : ℕ). (v : Tryable nodes code state1 scratch h (h - 1) x) → ClauseTried v final later r) (next_is is) k)
 
 -- ---- trying a clause
 
@@ -298,10 +298,10 @@ module _ {nodes code state scratch : List ℕ} {h k : ℕ} (w : Tryable nodes co
         t-ends : UnifyEnds nodes state state1 scratch later (record_place code (literal_at state (h - 1))) (copy_at state (h - 1)) (head_at code k) (path_at state (h - 1) + 1) (mark_at state (h - 1)) r
         t-ends = unify-ends t-place (copy_is is) qe t-new (mark-is is) state1 later r u
 
-        pub try-fails : r.equal ≡ false → Comes w state1 later (record { height = h; trail = r.trail })
+        pub try-fails : r.equal ≡ false → ClauseTried w state1 later (record { height = h; trail = r.trail })
         try-fails e =
             at_top (λ (h j : ℕ). (w : Tryable nodes code state scratch h j k) → UnifyEnds nodes state state1 scratch later (record_place code (literal_at state j)) (copy_at state j) (head_at code k) (path_at state j + 1) (mark_at state j) r
-            → Comes w state1 later (record { height = h; trail = r.trail }))
+            → ClauseTried w state1 later (record { height = h; trail = r.trail }))
             (λ j w u. try-fails-top nodes code state scratch j k w state1 later r u e) h filled w t-ends
 
         pub try-frame : (frame_of (s.path + 1) + frame_size ≤ length state1) × ((k < 2 ^ 32) × ((s.copy < 2 ^ 32) × (s.literal < 2 ^ 32)))
@@ -324,9 +324,9 @@ module _ {nodes code state scratch : List ℕ} {h k : ℕ} (w : Tryable nodes co
               (λ j w u x. try-layable-top nodes code state scratch j k w state1 later r u state2 x) h filled w t-ends t-words)
 
           pub try-end : r.equal ≡ true → (after : List ℕ) → LayEnds code state2 after h (s.path + 1) body r.trail (s.path + 1)
-              → Comes w after later (record { height = h + 1; trail = r.trail })
+              → ClauseTried w after later (record { height = h + 1; trail = r.trail })
           try-end e after y =
               at_top (λ (h j : ℕ). (w : Tryable nodes code state scratch h j k) → UnifyEnds nodes state state1 scratch later (record_place code (literal_at state j)) (copy_at state j) (head_at code k) (path_at state j + 1) (mark_at state j) r
               → state2 ≡ frame_words state1 (path_at state j + 1) k (copy_at state j) (literal_at state j) → LayEnds code state2 after h (path_at state j + 1) (body_at code k) r.trail (path_at state j + 1)
-              → Comes w after later (record { height = h + 1; trail = r.trail }))
+              → ClauseTried w after later (record { height = h + 1; trail = r.trail }))
               (λ j w u x z. try-core nodes code state scratch j k w state1 later r u state2 x e after z) h filled w t-ends t-words (lay-ends t-new be refl t-new after y)

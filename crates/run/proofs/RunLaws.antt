@@ -4,8 +4,8 @@ use native.Mathlib.Omega.{arith}
 use mathlib.Core.Path.{refl, sym, ap, ap₂, ◌∙◌, subst⁻¹}
 use mathlib.Core.List.{List, []}
 use lib.ListN.{length}
-use Rattle.syntax.specs.declared.Kind.{Kind}
-use Rattle.syntax.specs.declared.Kind.TheVariants.{Steps}
+use Rattle.syntax.specs.declared.RunEnd.{RunEnd}
+use Rattle.syntax.specs.declared.RunEnd.TheVariants.{Steps}
 use Rattle.machine.specs.Machine.{Alternative}
 use Rattle.machine.specs.Runs.{Progress, run_from, begun, run}
 use Rattle.machine.specs.Low.{Low}
@@ -14,7 +14,7 @@ use Rattle.run.specs.Meanings.{Meaning}
 use Rattle.run.specs.Steps.{Startable, Started}
 use Rattle.run.specs.declared.telling.LoadedProgram.{LoadedProgram}
 use Rattle.run.specs.Turns.{Turned, Underway}
-use Rattle.run.specs.Running.{Runs, Leaves, Runnable}
+use Rattle.run.specs.Running.{RunWritten, PileAtEnd, Runnable}
 use Rattle.run.specs.declared.turns.Carried.{Carried}
 use Rattle.output.specs.declared.results.Written.{Written}
 use Rattle.run.specs.Telling.{meaning_of}
@@ -72,17 +72,17 @@ module _ {loaded : LoadedProgram} {state scratch text : List ℕ} (w : Runnable 
       unfolding go-underway run
       turned-here = k go-underway
 
-      pub go-runs : Runs w.sh w.g allowance wanted text new (ran t)
+      pub go-runs : RunWritten w.sh w.g allowance wanted text new (ran t)
       go-runs =
           let z : Turned m state2 scratch2 text new (run w.sh w.g allowance wanted (length text)) t = turned-here in
           record {
-            is = ap (λ (x : Kind). record { kind = x; answers = t.answers; steps = t.steps }) z.kind_is
+            is = ap (λ (x : RunEnd). record { kind = x; answers = t.answers; steps = t.steps }) z.kind_is
                 ∙ ap₂ (λ (a b : ℕ). record { kind = (run w.sh w.g allowance wanted (length text)).kind; answers = a; steps = b }) z.answers_is z.steps_is;
             bytes_is = z.carries.at_is;
             text_is = z.carries.text_is;
           }
 
-      pub go-leaves : Leaves m state2 scratch2 (run w.sh w.g allowance wanted (length text)).at.pile
+      pub go-leaves : PileAtEnd m state2 scratch2 (run w.sh w.g allowance wanted (length text)).at.pile
       go-leaves =
           let z : Turned m state2 scratch2 text new (run w.sh w.g allowance wanted (length text)) t = turned-here in
           record {

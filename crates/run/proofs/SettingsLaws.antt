@@ -5,7 +5,7 @@ use mathlib.Core.Bool.{Bool, true, false, ◌&&◌}
 use lib.Dec.{leb}
 use borrow.Author.Tests.{le-leb, lt-leb, eq-eqb, ne_eqb}
 use Rattle.syntax.specs.Limits.{most_steps, most_answers}
-use Rattle.syntax.specs.declared.Kind.TheVariants.{Wanted, Done, Steps}
+use Rattle.syntax.specs.declared.RunEnd.TheVariants.{Wanted, Done, Steps}
 use Rattle.machine.specs.Runs.{in_range}
 use Rattle.std.specs.Prelude.{Some, None}
 use Rattle.run.specs.Ends.{ended_by}

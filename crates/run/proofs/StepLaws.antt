@@ -20,10 +20,10 @@ use Rattle.run_layout.specs.Program.{body_at, record_kind}
 use Rattle.run_layout.specs.Pile.{Calls, rest_from, left_behind, left_from, copy_at, literal_at, next_at, mark_at, path_at, alternative_at, pile_of, NextFor, Piled}
 use Rattle.bindings.specs.Cells.{Stored, Undone}
 use Rattle.run.specs.Words.{top_at}
-use Rattle.run.specs.Moves.{Layable, Lays}
+use Rattle.run.specs.Moves.{Layable, AlternativeLaid}
 use Rattle.run.specs.Meanings.{pile_in}
 use Rattle.run.specs.Steps.{Running, meaning, Steppable, Stepped, Startable, Started}
-use Rattle.run.specs.declared.alternatives.Pile.{Pile}
+use Rattle.run.specs.declared.alternatives.PileHeight.{PileHeight}
 use Rattle.run.specs.declared.alternatives.records.Top.{Top}
 use Rattle.run_layout.proofs.Step.{left-first, left-done}
 use Rattle.run_layout.proofs.Pile.{FirstStands, HeadStands, calls_count, body-stays, clause-some, goal-place, goal-rest, goal-left, next_low, Written, Means, undone, started}
@@ -50,7 +50,7 @@ module _ (nodes code state scratch : List ℕ) (j n : ℕ) (w : Steppable nodes 
         clean = w.clean;
       }
 
-  undo-end : (after later : List ℕ) (r : Pile) → ((v : Steppable nodes code mid scratch (suc j) (mark_at mid j)) → Stepped (meaning v.running) mid after scratch later (suc j) r)
+  undo-end : (after later : List ℕ) (r : PileHeight) → ((v : Steppable nodes code mid scratch (suc j) (mark_at mid j)) → Stepped (meaning v.running) mid after scratch later (suc j) r)
       → Stepped (meaning w.running) state after scratch later (suc j) r
   unfolding undo-steppable
   undo-end after later r k =
@@ -84,7 +84,7 @@ module _ {nodes code state scratch : List ℕ} {h n : ℕ} (w : Steppable nodes 
           at_top (λ (h j : ℕ). Steppable nodes code state scratch h n → Undone state mid (mark_at state j) n → Steppable nodes code mid scratch h (mark_at mid j))
           (λ j w u. undo-steppable nodes code state scratch j n w mid u) h w.some w undone-is
 
-      pub step_end : (after later : List ℕ) (r : Pile) → ((v : Steppable nodes code mid scratch h (mark_at mid (h - 1))) → Stepped (meaning v.running) mid after scratch later h r)
+      pub step_end : (after later : List ℕ) (r : PileHeight) → ((v : Steppable nodes code mid scratch h (mark_at mid (h - 1))) → Stepped (meaning v.running) mid after scratch later h r)
           → Stepped (meaning w.running) state after scratch later h r
       step_end after later r k =
           at_top (λ (h j : ℕ). (w : Steppable nodes code state scratch h n) → Undone state mid (mark_at state j) n → ((v : Steppable nodes code mid scratch h (mark_at mid j)) → Stepped (meaning v.running) mid after scratch later h r)
@@ -119,7 +119,7 @@ module _ (nodes code state : List ℕ) (w : Startable nodes code state) where
   goal-end : (after : List ℕ) → LayEnds code state after 0 0 (body_at code 0) 0 0 → Started w after
   unfolding goal-layable start
   goal-end after k =
-      let q : Lays goal-layable.climbing after 0 0 = k goal-layable in
+      let q : AlternativeLaid goal-layable.climbing after 0 0 = k goal-layable in
       let a : q.spot.copy ≤ 0 = q.climbs.copy in
       let c : q.spot.copy ≡ 0 = omega arith in
       let l : q.spot.literal ≡ body_at code 0 = q.climbs.here (body-stays w.program 0 (omega arith)) c in

@@ -11,10 +11,10 @@ use Rattle.machine.specs.Low.{Low}
 use Rattle.machine.specs.Machine.{Pending, Alternative, topmost, worked, worked_on, outcome, step}
 use Rattle.run_layout.specs.Regions.{cells, state_words, alternative_of, literal_size, alternative_size, most_alternatives}
 use Rattle.run_layout.specs.Nodes.{Symbol}
-use Rattle.run_layout.specs.State.{trail_at, Store, Within, Keeps}
+use Rattle.run_layout.specs.State.{trail_at, Store, WithinCopies, BindingsKept}
 use Rattle.run_layout.specs.Pile.{rest_from, copy_at, literal_at, mark_at, path_at, alternative_at, pile_of, RecordOf, Stacked, Piled}
 use Rattle.run_layout.proofs.Pigeonhole.{pigeonhole}
-use Rattle.run.specs.Moves.{Climbing, Lays, rest_at}
+use Rattle.run.specs.Moves.{Climbing, AlternativeLaid, rest_at}
 use Rattle.run.proofs.WordLaws.{less_one, stand-written}
 use Rattle.run_layout.proofs.Step.{left-also, Fresh, Going}
 use Rattle.run_layout.proofs.Pile.{HeadStands, place-room, place-stands, SameUpTo, keeps_same, same_place, same-frame, same-path_at, same-mark_at, same-stacked, same-pile, path-high, mark-top, Written, Stand, Means}
@@ -43,7 +43,7 @@ unfolding pile_of
 pile-tail ss sh g nodes code a b j q = tail-eq (alternative_at ss sh g nodes code a j) (alternative_at ss sh g nodes code b j) (pile_of ss sh g nodes code a j) (pile_of ss sh g nodes code b j) q
 
 -- what is laid stands there as new, and is written
-module _ {ss : List Symbol} {sh : Sheet} {g : Goal} {nodes code before after : List ℕ} {path c l j mark : ℕ} {w : Climbing ss sh g nodes code before path c l} (k : Lays w after j mark) where
+module _ {ss : List Symbol} {sh : Sheet} {g : Goal} {nodes code before after : List ℕ} {path c l j mark : ℕ} {w : Climbing ss sh g nodes code before path c l} (k : AlternativeLaid w after j mark) where
   pub lays-stand : Stand sh g code before k.spot.copy k.spot.literal k.next
   lays-stand = record { place = k.climbs.place; stays = k.climbs.stays; ends = k.climbs.ends; next = k.next-for }
 
@@ -81,7 +81,7 @@ module _ (ss : List Symbol) (sh : Sheet) (g : Goal) (nodes code state : List ℕ
   step-also x b one e = ap (λ (ls : List Pending). worked_on sh (alternative_at ss sh g nodes code state j) ls ++ pile_of ss sh g nodes code state j) (left-also (path_at state j) piled.program top-stacked.place top-stacked.stays one e)
 
   -- More bindings, and the words behind the trail as they were: the pile is the same.
-  module _ (mark : mark_at state j ≡ n) (state1 : List ℕ) (n1 : ℕ) (keeps : Keeps n state state1) (store1 : Store ss nodes state1 n1) (more : n ≤ n1) where
+  module _ (mark : mark_at state j ≡ n) (state1 : List ℕ) (n1 : ℕ) (keeps : BindingsKept n state state1) (store1 : Store ss nodes state1 n1) (more : n ≤ n1) where
     same : SameUpTo (suc j) longest_path n state state1
     same = keeps_same (suc j) longest_path n state state1 keeps
 
@@ -105,7 +105,7 @@ module _ (ss : List Symbol) (sh : Sheet) (g : Goal) (nodes code state : List ℕ
         }
 
     -- The top goes on at another record of its copy: an alternative with these bindings is laid in its place.
-    module _ (within1 : Within (path_at state j) state1 n1) (to : ℕ) (at : RecordOf sh g code state (copy_at state j) to) where
+    module _ (within1 : WithinCopies (path_at state j) state1 n1) (to : ℕ) (at : RecordOf sh g code state (copy_at state j) to) where
       pub gone-climbing : Climbing ss sh g nodes code state1 (path_at state j) (copy_at state j) to
       gone-climbing =
           let p : path_at state j ≤ longest_path = top-stacked.low in
@@ -119,7 +119,7 @@ module _ (ss : List Symbol) (sh : Sheet) (g : Goal) (nodes code state : List ℕ
             place = same_place sh g code state state1 longest_path same.frame (copy_at state j) to (omega arith) at;
           }
 
-      pub going : {after : List ℕ} {x : Climbing ss sh g nodes code state1 (path_at state j) (copy_at state j) to} → j < most_alternatives → (k : Lays x after j n1)
+      pub going : {after : List ℕ} {x : Climbing ss sh g nodes code state1 (path_at state j) (copy_at state j) to} → j < most_alternatives → (k : AlternativeLaid x after j n1)
           → Going ss sh g nodes code state state1 after j n n1 (path_at state j) to k.spot.copy k.spot.literal k.next
       going l k =
           let a : k.spot.copy ≤ copy_at state j = k.climbs.copy in

@@ -24,7 +24,7 @@ use Rattle.run_layout.proofs.State.{keeps-refl}
 use Rattle.bindings.specs.Queues.{Clean}
 use Rattle.unify.specs.Turns.{answered, Unifiable, UnifyGives}
 use Rattle.unify.specs.declared.solve.UnifyAnswer.{UnifyAnswer}
-use Rattle.run.specs.Moves.{Layable, Lays}
+use Rattle.run.specs.Moves.{Layable, AlternativeLaid}
 use Rattle.run.specs.Steps.{meaning, Steppable, Stepped}
 use Rattle.run.proofs.WordLaws.{add-one}
 use Rattle.run.proofs.LayLaws.{LayEnds}
@@ -127,7 +127,7 @@ module _ (nodes code state scratch : List ℕ) (j : ℕ) (w : Steppable nodes co
         → Stepped (meaning w.running) state after scratch scratch (suc j) (record { height = suc j; trail = mark_at state j })
     unfolding truth-layable-top
     truth-core after f =
-        let k : Lays truth-layable-top.climbing after j (mark_at state j) = f truth-layable-top in
+        let k : AlternativeLaid truth-layable-top.climbing after j (mark_at state j) = f truth-layable-top in
         let m : Means ss sh g nodes code after (suc j) (mark_at state j) (step sh (pile_of ss sh g nodes code state (suc j))) =
         truth-step ss sh g nodes code state after j (mark_at state j) (path_at state j) k.spot.copy k.spot.literal k.next truth-first.0
         (going ss sh g nodes code state j (mark_at state j) piled-top refl state (mark_at state j) (keeps-refl (mark_at state j) state) piled-top.store (omega arith) stacked-top.within (next_literal (literal_at state j)) truth-place room-top k) truth-first.1 in
@@ -195,7 +195,7 @@ module _ (nodes code state scratch : List ℕ) (j : ℕ) (w : Steppable nodes co
           → Stepped (meaning w.running) state after scratch later (suc j) (record { height = suc j; trail = r.trail })
       unfolding equation-layable-top answered
       equation-core e after f =
-          let k : Lays (equation-layable-top e).climbing after j r.trail = f (equation-layable-top e) in
+          let k : AlternativeLaid (equation-layable-top e).climbing after j r.trail = f (equation-layable-top e) in
           let m : Means ss sh g nodes code after (suc j) r.trail (step sh (pile_of ss sh g nodes code state (suc j))) =
           equal-step ss sh g nodes code state state1 after j (mark_at state j) r.trail (path_at state j) k.spot.copy k.spot.literal k.next sides.2 sides.0 sides.1
           (going ss sh g nodes code state j (mark_at state j) piled-top refl state1 r.trail unifies.keeps unifies.store unifies.grows unifies.within (next_literal (literal_at state j)) sides-place room-top k) sides.3 (equation-answer true e) in
@@ -238,7 +238,7 @@ module _ (nodes code state scratch : List ℕ) (j : ℕ) (w : Steppable nodes co
         }
 
     module _ (state1 : List ℕ) (k : LayEnds code state state1 j (copy_at state j) (other_at code (literal_at state j)) (mark_at state j) (path_at state j)) where
-      right : Lays right-layable-top.climbing state1 j (mark_at state j)
+      right : AlternativeLaid right-layable-top.climbing state1 j (mark_at state j)
       right = k right-layable-top
 
       right-going : Going ss sh g nodes code state state state1 j (mark_at state j) (mark_at state j) (path_at state j) (other_at code (literal_at state j)) right.spot.copy right.spot.literal right.next
@@ -280,7 +280,7 @@ module _ (nodes code state scratch : List ℕ) (j : ℕ) (w : Steppable nodes co
           → Stepped (meaning w.running) state after scratch scratch (suc j) (record { height = suc j + 1; trail = mark_at state j })
       unfolding left-layable-top
       either-core after f =
-          let q : Lays left-layable-top.climbing after (suc j) (mark_at state j) = f left-layable-top in
+          let q : AlternativeLaid left-layable-top.climbing after (suc j) (mark_at state j) = f left-layable-top in
           let a : q.spot.copy ≤ copy_at state j = q.climbs.copy in
           let c : copy_at state j ≤ path_at state j = stacked-top.copy in
           let l : state_words ≤ length state = piled-top.long in

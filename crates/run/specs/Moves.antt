@@ -12,7 +12,7 @@ use Rattle.run_layout.specs.Pile.{RecordOf, NoJump, Frame, NextFor, Piled}
 use Rattle.bindings.specs.Queues.{Clean}
 use Rattle.bindings.specs.Scratch.{Roomy}
 use Rattle.run.specs.Words.{top_words}
-use Rattle.run.specs.declared.alternatives.Pile.{Pile}
+use Rattle.run.specs.declared.alternatives.PileHeight.{PileHeight}
 use Rattle.run.specs.declared.alternatives.records.Spot.{Spot}
 
 -- ---- past the end of a side
@@ -29,7 +29,7 @@ pub record Settlable (code : List ℕ) (l : ℕ) : Type 0 where
   pub place : RecordOf sh g code state copy l
 
 -- The same goes on from r, which is not the end of a side.
-pub record Settles (sh : Sheet) (g : Goal) (code state : List ℕ) (c l r : ℕ) : Type 0 where
+pub record SideEndPassed (sh : Sheet) (g : Goal) (code state : List ℕ) (c l r : ℕ) : Type 0 where
   pub here : NoJump code l → r ≡ l
   pub place : RecordOf sh g code state c r
   pub stays : NoJump code r
@@ -55,7 +55,7 @@ pub record Climbable (code state : List ℕ) (c l : ℕ) : Type 0 where
   pub climbing : Climbing ss sh g nodes code state path c l
 
 -- The same literals are left from a spot that is no side's end, and no body's, unless it is the goal's.
-pub record Climbs (sh : Sheet) (g : Goal) (code state : List ℕ) (path c l : ℕ) (r : Spot) : Type 0 where
+pub record FirstLeft (sh : Sheet) (g : Goal) (code state : List ℕ) (path c l : ℕ) (r : Spot) : Type 0 where
   pub copy : r.copy ≤ c
   pub here : NoJump code l → r.copy ≡ c → r.literal ≡ l
   pub place : RecordOf sh g code state r.copy r.literal
@@ -75,11 +75,11 @@ pub record Layable (code state : List ℕ) (j c l mark path : ℕ) : Type 0 wher
   pub small : mark ≤ cells
 
 -- Alternative j stands at the first of the literals left from l of copy c on, which is new.
-pub record Lays {ss : List Symbol} {sh : Sheet} {g : Goal} {nodes code before : List ℕ} {path c l : ℕ}
+pub record AlternativeLaid {ss : List Symbol} {sh : Sheet} {g : Goal} {nodes code before : List ℕ} {path c l : ℕ}
     (w : Climbing ss sh g nodes code before path c l) (after : List ℕ) (j mark : ℕ) : Type 0 where
   pub spot : Spot
   pub next : ℕ
-  pub climbs : Climbs sh g code before path c l spot
+  pub climbs : FirstLeft sh g code before path c l spot
   pub next_is : next ≡ topmost sh (left_from sh g code before path c l)
   pub next-for : (a : Atom) → Calls (rest_from sh g code before spot.copy spot.literal) a → NextFor sh a next
   pub words : after ≡ top_words before j spot.copy spot.literal next mark path
@@ -114,7 +114,7 @@ tried_on {nodes} {code} {state} {j = j} w =
     ++ pile_of w.ss w.sh w.g nodes code state j
 
 -- The words mean that pile then.
-pub record Comes {nodes code before scratch : List ℕ} {h j k : ℕ} (w : Tryable nodes code before scratch h j k) (after later : List ℕ) (r : Pile)
+pub record ClauseTried {nodes code before scratch : List ℕ} {h j k : ℕ} (w : Tryable nodes code before scratch h j k) (after later : List ℕ) (r : PileHeight)
     : Type 0 where
   pub is : pile_of w.ss w.sh w.g nodes code after r.height ≡ tried_on w
   pub piled : Piled w.ss w.sh w.g nodes code after r.height r.trail

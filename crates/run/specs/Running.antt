@@ -19,7 +19,7 @@ abbrev pub report_of : Ended → Report
 report_of e = record { kind = e.kind; answers = e.at.answers; steps = e.at.steps }
 
 -- what a run leaves in the words that it was lent: the pile where it ended, and no mark
-pub record Leaves (m : Meaning) (state scratch : List ℕ) (pile : List Alternative) : Type 0 where
+pub record PileAtEnd (m : Meaning) (state scratch : List ℕ) (pile : List Alternative) : Type 0 where
   pub height : ℕ
   pub trail : ℕ
   pub piled : PiledIn m state height trail
@@ -27,7 +27,7 @@ pub record Leaves (m : Meaning) (state scratch : List ℕ) (pile : List Alternat
   pub clean : Clean scratch
 
 -- what a run gives and writes: the report, and how many bytes of the text are its lines
-pub record Runs (sh : Sheet) (g : Goal) (allowance wanted : ℕ) (old new : List ℕ) (r : Written) : Type 0 where
+pub record RunWritten (sh : Sheet) (g : Goal) (allowance wanted : ℕ) (old new : List ℕ) (r : Written) : Type 0 where
   pub is : r.report ≡ report_of (run sh g allowance wanted (length old))
   pub bytes_is : r.bytes ≡ length (run sh g allowance wanted (length old)).at.text
   pub text_is : new ≡ sets old 0 (run sh g allowance wanted (length old)).at.text

@@ -12,7 +12,7 @@ use Rattle.bindings.specs.Queues.{Clean}
 use Rattle.bindings.specs.Scratch.{Roomy}
 use Rattle.run.specs.Words.{top_at}
 use Rattle.run.specs.Meanings.{Meaning, pile_in, PiledIn}
-use Rattle.run.specs.declared.alternatives.Pile.{Pile}
+use Rattle.run.specs.declared.alternatives.PileHeight.{PileHeight}
 use Rattle.run.specs.declared.alternatives.records.Top.{Top}
 
 -- some loaded program and words that mean a pile of it, which is low
@@ -42,7 +42,7 @@ pub record AtTop (kind : ℕ) (nodes code state scratch : List ℕ) (h : ℕ) (s
   pub kind_is : record_kind code (literal_at state (h - 1)) ≡ kind
 
 -- The pile that the words mean after a step is the definition's step of the pile that they meant before.
-pub record Stepped (m : Meaning) (before after scratch later : List ℕ) (h : ℕ) (r : Pile) : Type 0 where
+pub record Stepped (m : Meaning) (before after scratch later : List ℕ) (h : ℕ) (r : PileHeight) : Type 0 where
   pub is : pile_in m after r.height ≡ step m.sh (pile_in m before h)
   pub piled : PiledIn m after r.height r.trail
   pub state_long : length after ≡ length before
@@ -50,7 +50,7 @@ pub record Stepped (m : Meaning) (before after scratch later : List ℕ) (h : �
   pub scratch_long : length later ≡ length scratch
 
 -- what a step promises where the trail is as long as the top's
-abbrev pub TopStepped : (nodes code before after scratch later : List ℕ) (h : ℕ) (r : Pile) → Type 0
+abbrev pub TopStepped : (nodes code before after scratch later : List ℕ) (h : ℕ) (r : PileHeight) → Type 0
 TopStepped nodes code before after scratch later h r =
     (w : Steppable nodes code before scratch h (mark_at before (h - 1))) → Stepped (meaning w.running) before after scratch later h r
 

@@ -1,7 +1,7 @@
 -- What comes before a step, and what telling an answer is given and promises.
 use Rattle.std.specs.Prelude.{ℕ, min, ◌+◌, ◌-◌, ◌*◌, ◌≤◌, ◌≡◌, true, cond, List, leb, eqb, length, Some, None}
 use Rattle.syntax.specs.Terms.{Sheet, Goal}
-use Rattle.syntax.specs.declared.Kind.TheVariants.{Wanted, Done, Steps, Deep}
+use Rattle.syntax.specs.declared.RunEnd.TheVariants.{Wanted, Done, Steps, Deep}
 use Rattle.machine.specs.Machine.{Alternative}
 use Rattle.machine.specs.Low.{Low}
 use Rattle.machine.specs.Answers.{line}

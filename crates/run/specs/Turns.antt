@@ -21,7 +21,7 @@ pub record Ongoing (m : Meaning) (state scratch : List ℕ) (e : Ended) (allowan
       (record { pile = pile_in m state t.height; answers = t.answers; steps = t.steps; text = written })
 
 -- What a run carries means the definition's progress, and so much is written into the text `old`.
-pub record Carries (m : Meaning) (state scratch old new : List ℕ) (p : Progress) (t : Carried) : Type 0 where
+pub record ProgressCarried (m : Meaning) (state scratch old new : List ℕ) (p : Progress) (t : Carried) : Type 0 where
   pub under : Under m state scratch (length old) t.height t.trail
   pub is : p ≡ record { pile = pile_in m state t.height; answers = t.answers; steps = t.steps; text = p.text }
   pub at_is : t.at ≡ length p.text
@@ -33,7 +33,7 @@ pub record Turned (m : Meaning) (state scratch old new : List ℕ) (e : Ended) (
   pub kind_is : t.kind ≡ e.kind
   pub answers_is : t.answers ≡ e.at.answers
   pub steps_is : t.steps ≡ e.at.steps
-  pub carries : Carries m state scratch old new e.at t
+  pub carries : ProgressCarried m state scratch old new e.at t
 
 -- a run under way
 pub record Underway (loaded : LoadedProgram) (state scratch text : List ℕ) (t : Carried) : Type 0 where
@@ -43,4 +43,4 @@ pub record Underway (loaded : LoadedProgram) (state scratch text : List ℕ) (t 
   pub spelt : Spelt ss g loaded
   pub old : List ℕ
   pub progress : Progress
-  pub carries : Carries (meaning_of ss sh g loaded) state scratch old text progress t
+  pub carries : ProgressCarried (meaning_of ss sh g loaded) state scratch old text progress t

@@ -1,4 +1,5 @@
-// The machine's run over words: settings, the pile of alternatives, the step, an answer told, turns, and the whole of it from a sheet and goal as read on.
+// The machine's run over words: settings, the pile of alternatives, the step, an answer told, turns, and the whole of it, from a sheet and a goal that
+// were read to the report and the lines.
 
 #![tactic(auto)]
 

@@ -1,7 +1,7 @@
-// A sheet and a goal as they were read into their tables: loaded, linked and run. The tables of a run are its own.
+// A sheet and a goal as they were read into their tables: loaded, linked and run. The tables of a run stand on the native stack.
 
 ghost use Rattle.std.specs.Prelude.{length};
-ghost use Rattle.run.specs.Running.{Runs};
+ghost use Rattle.run.specs.Running.{RunWritten};
 ghost use Rattle.run.specs.Programs.{RoomFor, ZeroScratch, Programmed, ProgramLinked};
 
 use crate::telling::LoadedProgram;
@@ -16,7 +16,7 @@ use run_layout::{
 };
 use syntax::MOST_STEPS;
 
-// A loaded and linked program run, with room for unification and for the open brackets of an answer.
+// Runs a loaded and linked program, with scratch words lent for unification and for the open brackets of an answer.
 fn with_state(
     loaded: LoadedProgram,
     scratch: &mut [u32],
@@ -25,13 +25,13 @@ fn with_state(
     wanted: usize,
 ) -> Written
     requires { (ProgramLinked loaded) × ZeroScratch scratch.old (length text.old) }
-    ensures { (w : ProgramLinked loaded.entry) → Runs w.sh w.g allowance wanted text.old text.new result }
+    ensures { (w : ProgramLinked loaded.entry) → RunWritten w.sh w.g allowance wanted text.old text.new result }
 {
     let mut state: [u32; STATE_WORDS] = cleared();
     run(loaded, &mut state, scratch, text, allowance, wanted)
 }
 
-// The run with so many words for unification and for the open brackets of an answer. `again` is always 0, so the function never calls itself. That it could
+// The run with `WORDS` words for unification and for the open brackets of an answer. `again` is always 0, so the function never calls itself. That it could
 // keeps a compiler from putting it into its caller, where a run would need native stack for the rooms of both sizes at once.
 fn with_room<const WORDS: usize>(
     loaded: LoadedProgram,
@@ -41,7 +41,7 @@ fn with_room<const WORDS: usize>(
     again: usize,
 ) -> Written
     requires { (ProgramLinked loaded) × RoomFor WORDS (length text.old) }
-    ensures { (w : ProgramLinked loaded.entry) → Runs w.sh w.g allowance wanted text.old text.new result }
+    ensures { (w : ProgramLinked loaded.entry) → RunWritten w.sh w.g allowance wanted text.old text.new result }
 {
     if again != 0 {
         return with_room::<WORDS>(loaded, text, allowance, wanted, again - 1);
@@ -50,12 +50,12 @@ fn with_room<const WORDS: usize>(
     with_state(loaded, &mut scratch, text, allowance, wanted)
 }
 
-// A loaded and linked program run. Only the room that it needs is cleared: less under a short sheet with a short text.
+// Runs a loaded and linked program. Only the room that it needs is cleared: less where neither sheet nor text is longer than `SHORT_SHEET` and `SHORT_TEXT`.
 fn choose_room(loaded: LoadedProgram, text: &mut [u8], allowance: usize, wanted: usize) -> Written
     requires { ProgramLinked loaded }
-    ensures { (w : ProgramLinked loaded.entry) → Runs w.sh w.g allowance wanted text.old text.new result }
+    ensures { (w : ProgramLinked loaded.entry) → RunWritten w.sh w.g allowance wanted text.old text.new result }
 {
-    // 0, since no run has a larger allowance
+    // This is 0, since no run has a larger allowance.
     let again = allowance / (MOST_STEPS + 1);
     if SHORT_SHEET < loaded.sheet.len() || SHORT_TEXT < text.len() {
         return with_room::<WIDE_WORDS>(loaded, text, allowance, wanted, again);
@@ -63,7 +63,8 @@ fn choose_room(loaded: LoadedProgram, text: &mut [u8], allowance: usize, wanted:
     with_room::<NARROW_WORDS>(loaded, text, allowance, wanted, again)
 }
 
-// A goal that was read run over a sheet that was read. The names are the words of the goal's variables, so many.
+/// Runs a goal that was read over a sheet that was read: at most `allowance` steps, until `wanted` answers are written, their lines from the start of `text`
+/// on. `names` holds the packed names of the goal's variables, `count` of them.
 pub fn load_and_run(
     sheet: ReadSheet<'_>,
     goal: ReadGoal<'_>,
@@ -75,7 +76,7 @@ pub fn load_and_run(
 ) -> Written
     requires { Programmed sheet.text.now sheet.table.now sheet.clauses goal.text.now goal.table.now goal.literals names.now count }
     ensures { (w : Programmed sheet.entry.text.now sheet.entry.table.now sheet.entry.clauses goal.entry.text.now goal.entry.table.now goal.entry.literals
-        names.now count) → Runs w.tables.sh w.tables.g allowance wanted text.old text.new result }
+        names.now count) → RunWritten w.tables.sh w.tables.g allowance wanted text.old text.new result }
 {
     let mut nodes: [u32; NODES_WORDS] = cleared();
     let mut symbols: [u32; NODES_WORDS] = cleared();

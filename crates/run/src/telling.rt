@@ -12,7 +12,7 @@ ghost use Rattle.run.specs.Meanings.{pile_in};
 ghost use Rattle.run.specs.Steps.{Running, meaning};
 ghost use Rattle.run.specs.Telling.{before_step, solution_of, Tellable, Rewindable, Rewound, Answering, Answered};
 
-use crate::alternatives::Pile;
+use crate::alternatives::PileHeight;
 use crate::alternatives::records::top_at;
 use crate::settings::ended;
 use crate::steps::{goes_deeper, is_answer, step};
@@ -21,13 +21,10 @@ use answers::lines::put_answer;
 use bindings::store::undo;
 use load::records::Compiled;
 use run_layout::STACK;
-use syntax::Kind;
+use syntax::RunEnd;
 
-// What a run reads and never writes: the two texts, the words of the goal's variables and their count, and the tables of a loaded program.
-// State, scratch words and text are no part of it, since they are written: a struct with a `&mut` field would have each function promise that it is still the
-// same reference. `nodes` and `code` are no `Compiled` in it: tried, and rattle does not read the proof of `run::loaded_runs::load_and_run` then, since that struct
-// would hold at one lifetime parameter references of two lifetimes of the signature.
-// (`ProgramLinked`, which load_and_run asks of it, is no ghost field: such a field wants a fact with one proof at most, and this one brings sheet and goal.)
+/// What a run reads and never writes: the two texts, the packed names of the goal's variables (`names`, `count` of them), and the tables of a loaded program.
+/// State, scratch words and text, which a run writes, are parameters of their own.
 #[derive(Clone, Copy)]
 pub struct LoadedProgram<'a> {
     pub sheet: &'a [u8],
@@ -39,16 +36,16 @@ pub struct LoadedProgram<'a> {
     pub symbols: &'a [u32],
 }
 
-// What comes before the next step: an end, an answer's line, or nothing.
+/// What comes before the next step: the run's end, an answer's line, or nothing, and then the step is taken.
 #[derive(Clone, Copy)]
 pub enum Next {
-    End(Kind),
+    End(RunEnd),
     Answer,
     Step,
 }
 
-// After an answer: the position past its line, none where the line does not fit; and the pile's height and the trail's length. (Two fields and no `Pile`, here
-// and in `Carried`: the relations of both speak of each by itself, and a `Pile` would make each path in them a step longer.)
+/// Where a run stands after an answer: the position in the text past its line, None where the line does not fit and no step was taken; the pile's height and
+/// the trail's length.
 #[derive(Clone, Copy)]
 pub struct AnswerTold {
     pub at: Option<usize>,
@@ -56,12 +53,12 @@ pub struct AnswerTold {
     pub trail: usize,
 }
 
-// What comes before the next step; `left` is what is left of the allowance. The ends are looked for in their order, `done` before `wanted`; whether an
-// answer's line fits is known once it is measured.
+/// What comes before the next step; `left` is what is left of the allowance. The ends are looked for in their order, `done` before `wanted` (REQUESTS (vii)).
+/// Whether an answer's line fits is known once it is spelt, in `answer`.
 pub fn next_of(
     code: &[u32],
     state: &[u32],
-    pile: Pile,
+    pile: PileHeight,
     wanted: usize,
     answers: usize,
     left: usize,
@@ -77,13 +74,13 @@ pub fn next_of(
         return Next::Answer;
     }
     if goes_deeper(code, state, pile) {
-        return Next::End(Kind::Deep);
+        return Next::End(RunEnd::Deep);
     }
     Next::Step
 }
 
 // The trail undone to the top's mark, which is its length then.
-fn rewind(state: &mut [u32], pile: Pile) -> usize
+fn rewind(state: &mut [u32], pile: PileHeight) -> usize
     requires { Rewindable state.old pile.height pile.trail }
     ensures { Rewound state.old state.new pile.height pile.trail result }
 {
@@ -92,7 +89,8 @@ fn rewind(state: &mut [u32], pile: Pile) -> usize
     s.mark
 }
 
-// The line of an answer written from at on, the brackets in the scratch words behind marks and queue.
+// Writes the line of an answer from `at` on and returns the position past it; None where it does not fit. The brackets open in a term stand in the scratch
+// words behind marks and queue.
 fn tell(
     loaded: LoadedProgram,
     state: &[u32],
@@ -120,13 +118,13 @@ fn tell(
     put_answer(solution, &mut scratch[from..], text, at)
 }
 
-// An answer: its line written from at on, and then the step.
+/// Tells an answer: writes its line from `at` on, and then takes the step. Where the line does not fit, the step is not taken.
 pub fn answer(
     loaded: LoadedProgram,
     state: &mut [u32],
     scratch: &mut [u32],
     text: &mut [u8],
-    pile: Pile,
+    pile: PileHeight,
     at: usize,
 ) -> AnswerTold
     requires { Answering loaded state.old scratch.old text.old pile.height pile.trail at }
@@ -145,7 +143,7 @@ pub fn answer(
         nodes: loaded.nodes,
         code: loaded.code,
     };
-    let here = Pile {
+    let here = PileHeight {
         height: pile.height,
         trail,
     };

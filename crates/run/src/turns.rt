@@ -5,14 +5,14 @@ ghost use Rattle.machine.specs.Runs.{run_from};
 ghost use Rattle.run.specs.Telling.{meaning_of};
 ghost use Rattle.run.specs.Turns.{Underway, Turned};
 
-use crate::alternatives::Pile;
+use crate::alternatives::PileHeight;
 use crate::steps::step;
 use crate::telling::{LoadedProgram, Next, answer, next_of};
 use load::records::Compiled;
-use syntax::Kind;
+use syntax::RunEnd;
 
-// What a run carries from turn to turn: the height of the pile, the length of the trail, the answers, the steps, the position in the text, and how it ended.
-// While it may go on that is `Steps`, and no Option: a turn whose steps are used up ends so, and the next turn does not read it.
+/// What a run carries from turn to turn: the height of the pile, the length of the trail, the answers, the steps, the position in the text, and how it ended.
+/// While it may go on, `kind` is `Steps`, as of a turn whose steps are used up; the next turn does not read it.
 #[derive(Clone, Copy)]
 pub struct Carried {
     pub height: usize,
@@ -20,10 +20,10 @@ pub struct Carried {
     pub answers: usize,
     pub steps: usize,
     pub at: usize,
-    pub kind: Kind,
+    pub kind: RunEnd,
 }
 
-// A run taken at most k steps further: the step repeated until an end applies or the k steps are used up.
+/// Takes a run at most `k` steps further: the step is repeated until an end applies or the `k` steps are used up. `wanted` counts the answers of the whole run.
 pub fn turn(
     loaded: LoadedProgram,
     state: &mut [u32],
@@ -40,7 +40,7 @@ pub fn turn(
         (run_from w.sh w.g wanted (length w.old) k w.progress) result }
 {
     let allowance = carried.steps + k;
-    let mut pile = Pile {
+    let mut pile = PileHeight {
         height: carried.height,
         trail: carried.trail,
     };
@@ -70,11 +70,11 @@ pub fn turn(
                         answers,
                         steps,
                         at,
-                        kind: Kind::Full,
+                        kind: RunEnd::Full,
                     };
                 };
                 at = past;
-                pile = Pile {
+                pile = PileHeight {
                     height: t.height,
                     trail: t.trail,
                 };

@@ -3,16 +3,15 @@
 ghost use Rattle.std.specs.Prelude.{length};
 ghost use Rattle.machine.specs.Runs.{run};
 ghost use Rattle.run.specs.Telling.{meaning_of};
-ghost use Rattle.run.specs.Running.{Runnable, Runs, Leaves};
+ghost use Rattle.run.specs.Running.{Runnable, RunWritten, PileAtEnd};
 
 use crate::steps::start;
 use crate::telling::LoadedProgram;
 use crate::turns::{Carried, turn};
 use output::results::Written;
-use syntax::{Kind, Report};
+use syntax::{Report, RunEnd};
 
-// A run over a loaded program, in one turn: what it reports, and its lines at the start of the text, so many bytes. (Allowance and wanted are no
-// `RunSettings`, which has `stored` too: a run does not ask for it.)
+/// Runs a loaded program in one turn, from the goal alone on the pile: returned are its report and how many bytes its lines take at the start of the text.
 pub fn run(
     loaded: LoadedProgram,
     state: &mut [u32],
@@ -23,9 +22,9 @@ pub fn run(
 ) -> Written
     requires { Runnable loaded state.old scratch.old text.old }
     ensures gives { (w : Runnable loaded.entry state.old scratch.old text.old)
-        → Runs w.sh w.g allowance wanted text.old text.new result }
+        → RunWritten w.sh w.g allowance wanted text.old text.new result }
     ensures leaves { (w : Runnable loaded.entry state.old scratch.old text.old)
-        → Leaves (meaning_of w.ss w.sh w.g loaded.entry) state.new scratch.new
+        → PileAtEnd (meaning_of w.ss w.sh w.g loaded.entry) state.new scratch.new
         (run w.sh w.g allowance wanted (length text.old)).at.pile }
 {
     start(loaded.code, state);
@@ -35,7 +34,7 @@ pub fn run(
         answers: 0,
         steps: 0,
         at: 0,
-        kind: Kind::Steps,
+        kind: RunEnd::Steps,
     };
     let last = turn(loaded, state, scratch, text, first, allowance, wanted);
     let kind = last.kind;

@@ -15,7 +15,7 @@ use Rattle.syntax.specs.Terms.{Term, Terms, variable, compound, nil, cons, arity
 use Rattle.machine.specs.Substitution.{RTerm, RTerms, var, app, rnil, rcons, copied, copied_all}
 use Rattle.machine.proofs.Tests.{both, and, name-eq}
 use Rattle.run_layout.specs.Regions.{loaded_node}
-use Rattle.words.specs.Tables.{Has}
+use Rattle.words.specs.Tables.{WordsAt}
 use Rattle.run_layout.specs.Nodes.{Symbol, is_symbol, symbol_of, is_listed, name_of_symbol, loaded_words, loaded_all, is_loadable, are_loadable, brackets_of, brackets_all, TermLoaded, TermsLoaded, Node, Row, decoded, decoded_all, term_at, terms_at, followed, count}
 
 -- ---- symbols
@@ -56,7 +56,7 @@ words-not-nil : (ss : List Symbol) (t : Term) → loaded_words ss t ≡ [] → �
 words-not-nil ss t e = let k : loaded_node ≤ length (loaded_words ss t) = words-some ss t in let z : length (loaded_words ss t) ≡ 0 = ap length e in omega arith
 
 -- the second word is how many there are
-pub size_word : (ss : List Symbol) (nodes : List ℕ) (p : ℕ) (t : Term) → Has nodes p (loaded_words ss t) → get_or nodes (p + 1) 0 ≡ length (loaded_words ss t)
+pub size_word : (ss : List Symbol) (nodes : List ℕ) (p : ℕ) (t : Term) → WordsAt nodes p (loaded_words ss t) → get_or nodes (p + 1) 0 ≡ length (loaded_words ss t)
 unfolding loaded_words
 size_word ss nodes p (variable n b) h = h.2.1
 size_word ss nodes p (compound b f ts) h = h.2.1 ∙ (let e : loaded_node + length (loaded_all ss ts) ≡ suc (suc (length (loaded_all ss ts))) = omega arith in e)
@@ -104,7 +104,7 @@ module _ (ss : List Symbol) (nodes : List ℕ) (c : ℕ) where
         let w : get_or nodes p 0 ≡ first_name + symbol_of ss f (arity ts) = s.words.1 in
         let z : get_or nodes (p + 1) 0 ≡ loaded_node + length (loaded_all ss ts) = s.words.2.1 in
         let ok : T (is_listed ss f (arity ts)) × T (are_loadable ss ts) = both (is_listed ss f (arity ts)) (are_loadable ss ts) s.loadable in
-        let inner : Has nodes (p + loaded_node) (loaded_all ss ts) = subst (λ (q : ℕ). Has nodes q (loaded_all ss ts)) (two p) s.words.2.2 in
+        let inner : WordsAt nodes (p + loaded_node) (loaded_all ss ts) = subst (λ (q : ℕ). WordsAt nodes q (loaded_all ss ts)) (two p) s.words.2.2 in
         let ends : p + get_or nodes (p + 1) 0 ≡ (p + loaded_node) + length (loaded_all ss ts) = omega arith in
         let short : length (loaded_all ss ts) ≤ k = omega arith in
         let args : decoded_all ss nodes c k (p + loaded_node) ((p + loaded_node) + length (loaded_all ss ts)) ≡ copied_all c ts = decoded-all k (p + loaded_node) ts (record { words = inner; loadable = ok.1; shallow = brackets-name b f ts s.shallow }) short in
@@ -124,8 +124,8 @@ module _ (ss : List Symbol) (nodes : List ℕ) (c : ℕ) where
         let short : length (loaded_words ss t ++ loaded_all ss ts) ≤ suc k = l in
         let ok : T (is_loadable ss t) × T (are_loadable ss ts) = both (is_loadable ss t) (are_loadable ss ts) s.loadable in
         let few : (brackets_of t ≤ brackets) × (brackets_all ts ≤ brackets + 1) = brackets-cons t ts s.shallow in
-        let first : Has nodes p (loaded_words ss t) = has_left nodes p (loaded_words ss t) (loaded_all ss ts) s.words in
-        let rest : Has nodes (p + length (loaded_words ss t)) (loaded_all ss ts) = has_right nodes p (loaded_words ss t) (loaded_all ss ts) s.words in
+        let first : WordsAt nodes p (loaded_words ss t) = has_left nodes p (loaded_words ss t) (loaded_all ss ts) s.words in
+        let rest : WordsAt nodes (p + length (loaded_words ss t)) (loaded_all ss ts) = has_right nodes p (loaded_words ss t) (loaded_all ss ts) s.words in
         let size : get_or nodes (p + 1) 0 ≡ length (loaded_words ss t) = size_word ss nodes p t first in
         let one : decoded ss nodes c k p ≡ copied c t = decoded-is k p t (record { words = first; loadable = ok.0; shallow = few.0 }) (let r : length (loaded_words ss t) ≤ suc k = omega arith in r) in
         let more : decoded_all ss nodes c k (p + length (loaded_words ss t)) ((p + length (loaded_words ss t)) + length (loaded_all ss ts)) ≡ copied_all c ts = decoded-all k (p + length (loaded_words ss t)) ts (record { words = rest; loadable = ok.1; shallow = few.1 }) (let r : length (loaded_all ss ts) ≤ k = omega arith in r) in
@@ -141,7 +141,7 @@ term-at ss nodes p c t s =
     decoded-is ss nodes c (length nodes) p t s (let k : p + length (loaded_words ss t) ≤ length nodes = has_end nodes p (loaded_words ss t) s.words (words-not-nil ss t) in omega arith)
 
 -- the words of some terms end within the table
-all_end : (ss : List Symbol) (nodes : List ℕ) (p : ℕ) (ts : Terms) → Has nodes p (loaded_all ss ts) → length (loaded_all ss ts) ≤ length nodes
+all_end : (ss : List Symbol) (nodes : List ℕ) (p : ℕ) (ts : Terms) → WordsAt nodes p (loaded_all ss ts) → length (loaded_all ss ts) ≤ length nodes
 unfolding loaded_all
 all_end ss nodes p nil h = omega arith
 all_end ss nodes p (cons t ts) h =
@@ -197,7 +197,7 @@ view ss nodes p (compound b f ts) s =
       word = s.words.1;
       size = s.words.2.1;
       listed = ok.0;
-      stand = record { words = subst (λ (q : ℕ). Has nodes q (loaded_all ss ts)) (two p) s.words.2.2; loadable = ok.1; shallow = brackets-name b f ts s.shallow };
+      stand = record { words = subst (λ (q : ℕ). WordsAt nodes q (loaded_all ss ts)) (two p) s.words.2.2; loadable = ok.1; shallow = brackets-name b f ts s.shallow };
       means = λ c. term-at ss nodes p c (compound b f ts) s;
     })
 
@@ -243,7 +243,7 @@ row_one ss nodes p n =
     let a : length (loaded_words ss n.0 ++ []) ≡ length (loaded_words ss n.0) = ap length (append-nil (loaded_words ss n.0)) in
     record {
       terms = cons n.0 nil;
-      stand = record { words = subst⁻¹ (Has nodes p) (append-nil (loaded_words ss n.0)) n.1.words; loadable = and (is_loadable ss n.0) true n.1.loadable tt; shallow = brackets-one n.0 n.1.shallow };
+      stand = record { words = subst⁻¹ (WordsAt nodes p) (append-nil (loaded_words ss n.0)) n.1.words; loadable = and (is_loadable ss n.0) true n.1.loadable tt; shallow = brackets-one n.0 n.1.shallow };
       ends = omega arith;
     }
 
@@ -267,7 +267,7 @@ row-view ss nodes p e (cons t ts) s q l =
     let one : TermLoaded ss nodes p t = record { words = has_left nodes p (loaded_words ss t) (loaded_all ss ts) s.words; loadable = ok.0; shallow = few.0 } in
     let size : get_or nodes (p + 1) 0 ≡ length (loaded_words ss t) = size_word ss nodes p t one.words in
     let at : p + length (loaded_words ss t) ≡ p + get_or nodes (p + 1) 0 = omega arith in
-    let more : TermsLoaded ss nodes (p + get_or nodes (p + 1) 0) ts = record { words = subst (λ (x : ℕ). Has nodes x (loaded_all ss ts)) at (has_right nodes p (loaded_words ss t) (loaded_all ss ts) s.words); loadable = ok.1; shallow = few.1 } in
+    let more : TermsLoaded ss nodes (p + get_or nodes (p + 1) 0) ts = record { words = subst (λ (x : ℕ). WordsAt nodes x (loaded_all ss ts)) at (has_right nodes p (loaded_words ss t) (loaded_all ss ts) s.words); loadable = ok.1; shallow = few.1 } in
     let both_long : length (loaded_words ss t ++ loaded_all ss ts) ≡ length (loaded_words ss t) + length (loaded_all ss ts) = length-append (loaded_words ss t) (loaded_all ss ts) in
     let q1 : e ≡ p + length (loaded_words ss t ++ loaded_all ss ts) = q in
     let ends : e ≡ (p + get_or nodes (p + 1) 0) + length (loaded_all ss ts) = omega arith in
@@ -320,7 +320,7 @@ join-rows ss nodes p m e a b =
     let z : length (loaded_all ss (join_terms a.terms b.terms)) ≡ length (loaded_all ss a.terms ++ loaded_all ss b.terms) = ap length (loaded-join ss a.terms b.terms) in
     let u : length (loaded_all ss a.terms ++ loaded_all ss b.terms) ≡ length (loaded_all ss a.terms) + length (loaded_all ss b.terms) = length-append (loaded_all ss a.terms) (loaded_all ss b.terms) in omega arith) in
     let stand : TermsLoaded ss nodes p (join_terms a.terms b.terms) = record {
-      words = subst⁻¹ (Has nodes p) (loaded-join ss a.terms b.terms) (has-append nodes p (loaded_all ss a.terms) (loaded_all ss b.terms) a.stand.words (subst (λ (x : ℕ). Has nodes x (loaded_all ss b.terms)) a.ends b.stand.words));
+      words = subst⁻¹ (WordsAt nodes p) (loaded-join ss a.terms b.terms) (has-append nodes p (loaded_all ss a.terms) (loaded_all ss b.terms) a.stand.words (subst (λ (x : ℕ). WordsAt nodes x (loaded_all ss b.terms)) a.ends b.stand.words));
       loadable = loadable-join ss a.terms b.terms a.stand.loadable b.stand.loadable;
       shallow = brackets-join a.terms b.terms a.stand.shallow b.stand.shallow;
     } in

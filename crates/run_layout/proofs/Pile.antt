@@ -17,7 +17,7 @@ use Rattle.machine.specs.Low.{Low}
 use Rattle.machine.proofs.Tests.{some-none, both, name-eq}
 use Rattle.run_layout.specs.Regions.{store_words, frames, alternatives, most_alternatives, state_words, frame_of, alternative_of, literal_size, body_end_kind, split_kind, jump_kind, next_literal, frame_size, alternative_size, literal_from}
 use Rattle.run_layout.specs.Nodes.{Symbol, TermLoaded}
-use Rattle.run_layout.specs.State.{bindings, Store, Within, Agrees, Keeps}
+use Rattle.run_layout.specs.State.{bindings, Store, WithinCopies, SameBindings, BindingsKept}
 use Rattle.run_layout.specs.Program.{body_at, record_kind, record_place, other_at, PlainLoaded, BodyLoaded, Program}
 use Rattle.run_layout.specs.Pile.{body_in, body_of, body_then, drop_body, atom_in, first_atom, Calls, clause_in, caller_of, call_of, rest_from, left_behind, left_from, calls_up_to, copy_at, literal_at, next_at, mark_at, path_at, alternative_at, pile_of, RecordOf, NoJump, Frame, NextFor, Stacked, Piled}
 use Rattle.run_layout.proofs.Places.{Item, the_end, a_literal, a_split, a_jump, item-at, drop-none, body-first}
@@ -359,12 +359,12 @@ SameFrames k before after = (j : ℕ) → store_words ≤ j → j < frame_of (k 
 pub record SameUpTo (h k n : ℕ) (before after : List ℕ) : Type 0 where
   pub frame : SameFrames k before after
   pub alternative : (j : ℕ) → alternatives ≤ j → j < alternative_of h → get_or after j 0 ≡ get_or before j 0
-  pub agree : Agrees n before after
+  pub agree : SameBindings n before after
 
-agrees-less : (m n : ℕ) (before after : List ℕ) → m ≤ n → Agrees n before after → Agrees m before after
+agrees-less : (m n : ℕ) (before after : List ℕ) → m ≤ n → SameBindings n before after → SameBindings m before after
 agrees-less m n before after l a = record { entry = λ i q. a.entry i (omega arith); cell = λ i q. a.cell i (omega arith) }
 
-pub keeps_same : (h k n : ℕ) (before after : List ℕ) → Keeps n before after → SameUpTo h k n before after
+pub keeps_same : (h k n : ℕ) (before after : List ℕ) → BindingsKept n before after → SameUpTo h k n before after
 keeps_same h k n before after s = record { frame = λ j l q. s.others j l; alternative = λ j l q. s.others j (omega arith); agree = agrees n before after s }
 
 pub same-clause : (before after : List ℕ) (k : ℕ) → SameFrames k before after → (c : ℕ) → c ≤ k → clause_in after c ≡ clause_in before c
@@ -493,12 +493,12 @@ module _ (ss : List Symbol) (sh : Sheet) (g : Goal) (nodes code before after : L
       let cl : copy_at before j ≤ k = omega arith in
       let r : rest_from sh g code after (copy_at after j) (literal_at after j) ≡ rest_from sh g code before (copy_at before j) (literal_at before j) =
       ap₂ (rest_from sh g code after) c l ∙ same_rest sh g code before after k same.frame (copy_at before j) (literal_at before j) cl in
-      let ag : Agrees (mark_at before j) before after = agrees-less (mark_at before j) n before after mark same.agree in
+      let ag : SameBindings (mark_at before j) before after = agrees-less (mark_at before j) n before after mark same.agree in
       record {
         low = (let z : path_at after j ≤ longest_path = omega arith in z);
         copy = (let z : copy_at after j ≤ path_at after j = omega arith in z);
         mark = (let z : mark_at after j ≤ n1 = omega arith in z);
-        within = subst⁻¹ (λ (y : ℕ). Within y after (mark_at after j)) p (subst⁻¹ (Within (path_at before j) after) m (within-agrees (path_at before j) (mark_at before j) (mark_at before j) before after (omega arith) ag s.within));
+        within = subst⁻¹ (λ (y : ℕ). WithinCopies y after (mark_at after j)) p (subst⁻¹ (WithinCopies (path_at before j) after) m (within-agrees (path_at before j) (mark_at before j) (mark_at before j) before after (omega arith) ag s.within));
         frame = λ i z. same-frame sh g code before after k same.frame i (omega arith) (s.frame i (let y : i < path_at after j = z in omega arith));
         place = subst⁻¹ (λ (y : ℕ). RecordOf sh g code after y (literal_at after j)) c (subst⁻¹ (RecordOf sh g code after (copy_at before j)) l (same_place sh g code before after k same.frame (copy_at before j) (literal_at before j) cl s.place));
         stays = subst⁻¹ (NoJump code) l s.stays;
@@ -706,7 +706,7 @@ carried ss sh g nodes code before after h k n n0 n1 p same path mark q store e =
     }
 
 -- the trail is undone down to the top's mark
-pub undone : (ss : List Symbol) (sh : Sheet) (g : Goal) (nodes code state after : List ℕ) (h n m : ℕ) → Piled ss sh g nodes code state (suc h) n → mark_at state h ≡ m → Keeps m state after → Store ss nodes after m
+pub undone : (ss : List Symbol) (sh : Sheet) (g : Goal) (nodes code state after : List ℕ) (h n m : ℕ) → Piled ss sh g nodes code state (suc h) n → mark_at state h ≡ m → BindingsKept m state after → Store ss nodes after m
     → Means ss sh g nodes code after (suc h) m (pile_of ss sh g nodes code state (suc h))
 undone ss sh g nodes code state after h n m p e k store =
     carried ss sh g nodes code state after (suc h) longest_path m n m p (keeps_same (suc h) longest_path m state after k) (λ j l. (p.each j l).low)
@@ -717,7 +717,7 @@ undone ss sh g nodes code state after h n m p e k store =
 module _ (ss : List Symbol) (sh : Sheet) (g : Goal) (nodes code before after : List ℕ) (h n m p c l x : ℕ)
     (piled : Piled ss sh g nodes code before h n) (mark-low : m ≤ n) (path-low : p ≤ longest_path) (copy-low : c ≤ p)
     (paths : (j : ℕ) → j < h → path_at before j ≤ p) (marks : (j : ℕ) → j < h → mark_at before j ≤ m)
-    (within : Within p before m) (frames : (i : ℕ) → i < p → Frame sh g code before (suc i)) (stand : Stand sh g code before c l x) (w : Written h c l x m p before after) where
+    (within : WithinCopies p before m) (frames : (i : ℕ) → i < p → Frame sh g code before (suc i)) (stand : Stand sh g code before c l x) (w : Written h c l x m p before after) where
   same-words : SameStore before after
   same-words = (w.long, λ j q. w.others j (omega arith))
 
@@ -741,7 +741,7 @@ module _ (ss : List Symbol) (sh : Sheet) (g : Goal) (nodes code before after : L
         low = (let y : path_at after h ≤ longest_path = omega arith in y);
         copy = (let y : copy_at after h ≤ path_at after h = omega arith in y);
         mark = (let y : mark_at after h ≤ n = omega arith in y);
-        within = subst⁻¹ (λ (y : ℕ). Within y after (mark_at after h)) ep (subst⁻¹ (Within p after) em (within-agrees p m m before after (omega arith) (agrees-less m n before after mark-low same-below.agree) within));
+        within = subst⁻¹ (λ (y : ℕ). WithinCopies y after (mark_at after h)) ep (subst⁻¹ (WithinCopies p after) em (within-agrees p m m before after (omega arith) (agrees-less m n before after mark-low same-below.agree) within));
         frame = λ i q. (let y : i < path_at after h = q in same-frame sh g code before after longest_path same-below.frame i (omega arith) (frames i (omega arith)));
         place = subst⁻¹ (λ (y : ℕ). RecordOf sh g code after y (literal_at after h)) ec (subst⁻¹ (RecordOf sh g code after c) w.literal (same_place sh g code before after longest_path same-below.frame c l (omega arith) stand.place));
         stays = subst⁻¹ (NoJump code) w.literal stand.stays;
@@ -787,7 +787,7 @@ module _ (ss : List Symbol) (sh : Sheet) (g : Goal) (nodes code before after : L
       rises f top rest i j q r false e = rest i j q (under j r e)
 
 -- the frames of the top's path, and its copy, where every word behind the trail is as it was
-module _ (ss : List Symbol) (sh : Sheet) (g : Goal) (nodes code state after : List ℕ) (h n m : ℕ) (piled : Piled ss sh g nodes code state (suc h) n) (keeps : Keeps m state after) where
+module _ (ss : List Symbol) (sh : Sheet) (g : Goal) (nodes code state after : List ℕ) (h n m : ℕ) (piled : Piled ss sh g nodes code state (suc h) n) (keeps : BindingsKept m state after) where
   pub kept-frames : (i : ℕ) → i < path_at state h → Frame sh g code after (suc i)
   kept-frames i l =
       let z : path_at state h ≤ longest_path = (piled.each h (omega arith)).low in
@@ -801,7 +801,7 @@ module _ (ss : List Symbol) (sh : Sheet) (g : Goal) (nodes code state after : Li
 
 -- The top, whose trail ends at its mark, gets another place and more bindings.
 pub replaced : (ss : List Symbol) (sh : Sheet) (g : Goal) (nodes code state state1 state2 : List ℕ) (h n n1 p c l x : ℕ) → Piled ss sh g nodes code state (suc h) n → mark_at state h ≡ n → path_at state h ≡ p
-    → Keeps n state state1 → Store ss nodes state1 n1 → Within p state1 n1 → n ≤ n1 → c ≤ p → Stand sh g code state1 c l x → Written h c l x n1 p state1 state2
+    → BindingsKept n state state1 → Store ss nodes state1 n1 → WithinCopies p state1 n1 → n ≤ n1 → c ≤ p → Stand sh g code state1 c l x → Written h c l x n1 p state1 state2
     → Means ss sh g nodes code state2 (suc h) n1 (record { literals = left_from sh g code state1 p c l; bindings = bindings ss nodes state1 n1; next = x; calls = calls_up_to sh g code state p } ∷ pile_of ss sh g nodes code state h)
 replaced ss sh g nodes code state state1 state2 h n n1 p c l x piled em ep keeps store within more low stand w =
     let lower : Means ss sh g nodes code state1 h n1 (pile_of ss sh g nodes code state h) =
@@ -836,9 +836,9 @@ pub record Pushing (ss : List Symbol) (sh : Sheet) (g : Goal) (nodes code state 
   pub path : p ≡ path_at state h + 1
   pub low : p ≤ longest_path
   pub calls : Calls (rest_from sh g code state (copy_at state h) (literal_at state h)) a
-  pub keeps : Keeps n state state1
+  pub keeps : BindingsKept n state state1
   pub store : Store ss nodes state1 n1
-  pub within : Within p state1 n1
+  pub within : WithinCopies p state1 n1
   pub more : n ≤ n1
   pub clause : clause_at sh m ≡ some cl
   pub framed : Framed p m (copy_at state h) (literal_at state h) state1 state2
@@ -942,7 +942,7 @@ module _ (ss : List Symbol) (sh : Sheet) (g : Goal) (nodes code state state1 sta
   pub pushed : (state3 : List ℕ) (c l x : ℕ) → c ≤ p → Stand sh g code state2 c l x → Written (suc h) c l x n1 p state2 state3
       → Means ss sh g nodes code state3 (suc (suc h)) n1 (record { literals = left_from sh g code state2 p c l; bindings = bindings ss nodes state1 n1; next = x; calls = record { copy = copy_at state h; atom = a } ∷ calls_up_to sh g code state (path_at state h) } ∷ pile_of ss sh g nodes code state (suc h))
   pushed state3 c l x low stand w =
-      let agree : Agrees n1 state1 state2 = same-agrees ss nodes state1 state2 n1 t.store pushed-store in
+      let agree : SameBindings n1 state1 state2 = same-agrees ss nodes state1 state2 n1 t.store pushed-store in
       let all : Means ss sh g nodes code state3 (suc (suc h)) n1 (record { literals = left_from sh g code state2 p c l; bindings = bindings ss nodes state2 n1; next = x; calls = calls_up_to sh g code state2 p } ∷ pile_of ss sh g nodes code state2 (suc h)) =
       topped ss sh g nodes code state2 state3 (suc h) n1 n1 p c l x pushed-below.piled (omega arith) t.low low paths (λ j q. (pushed-below.piled.each j q).mark)
       (within-agrees p n1 n1 state1 state2 (omega arith) agree t.within) pushed-frames stand w in

@@ -13,7 +13,7 @@ use Rattle.machine.specs.Substitution.{Variable, same_variable, RTerm, RTerms, v
 use Rattle.machine.proofs.Tests.{variable-eq, variable-refl, or_left, or_right}
 use Rattle.run_layout.specs.Regions.{copies, copy_cells, places, cells, trail, store_words}
 use Rattle.run_layout.specs.Nodes.{Symbol, Node, term_at}
-use Rattle.run_layout.specs.State.{cell_of, variable_of, word_of, node_of, copy_of, cell_at, trail_at, value_of, bindings, TrailEntry, Store, Within, Agrees, Keeps, bound_words}
+use Rattle.run_layout.specs.State.{cell_of, variable_of, word_of, node_of, copy_of, cell_at, trail_at, value_of, bindings, TrailEntry, Store, WithinCopies, SameBindings, BindingsKept, bound_words}
 use Rattle.run_layout.proofs.Pigeonhole.{pigeonhole}
 
 -- ---- cells and their words
@@ -47,7 +47,7 @@ copy-small w = omega arith
 
 -- ---- the bindings depend only on the first n entries and their cells
 
-pub bindings-agree : (ss : List Symbol) (nodes before after : List ℕ) (m n : ℕ) → m ≤ n → Agrees n before after → bindings ss nodes after m ≡ bindings ss nodes before m
+pub bindings-agree : (ss : List Symbol) (nodes before after : List ℕ) (m n : ℕ) → m ≤ n → SameBindings n before after → bindings ss nodes after m ≡ bindings ss nodes before m
 unfolding bindings
 bindings-agree ss nodes before after zero n l k = refl
 bindings-agree ss nodes before after (suc m) n l k =
@@ -57,16 +57,16 @@ bindings-agree ss nodes before after (suc m) n l k =
     let w : cell_at after (trail_at after m) ≡ cell_at before (trail_at before m) = ap (cell_at after) e ∙ c in
     λ i. record { variable = variable_of (e i); term = resolve (older i) (value_of ss nodes (w i)) } ∷ older i
 
-pub agrees : (n : ℕ) (before after : List ℕ) → Keeps n before after → Agrees n before after
+pub agrees : (n : ℕ) (before after : List ℕ) → BindingsKept n before after → SameBindings n before after
 agrees n before after k = record { entry = k.entry; cell = k.cell }
 
-pub bindings-keep : (ss : List Symbol) (nodes before after : List ℕ) (m n : ℕ) → m ≤ n → Keeps n before after → bindings ss nodes after m ≡ bindings ss nodes before m
+pub bindings-keep : (ss : List Symbol) (nodes before after : List ℕ) (m n : ℕ) → m ≤ n → BindingsKept n before after → bindings ss nodes after m ≡ bindings ss nodes before m
 bindings-keep ss nodes before after m n l k = bindings-agree ss nodes before after m n l (agrees n before after k)
 
-pub keeps-refl : (n : ℕ) (state : List ℕ) → Keeps n state state
+pub keeps-refl : (n : ℕ) (state : List ℕ) → BindingsKept n state state
 keeps-refl n state = record { long = refl; entry = λ i l. refl; cell = λ i l. refl; others = λ j l. refl }
 
-pub keeps-trans : (m n : ℕ) (a b c : List ℕ) → m ≤ n → Keeps m a b → Keeps n b c → Keeps m a c
+pub keeps-trans : (m n : ℕ) (a b c : List ℕ) → m ≤ n → BindingsKept m a b → BindingsKept n b c → BindingsKept m a c
 keeps-trans m n a b c l h k =
     record {
       long = k.long ∙ h.long;
@@ -75,11 +75,11 @@ keeps-trans m n a b c l h k =
       others = λ j q. k.others j q ∙ h.others j q;
     }
 
-pub keeps-less : (m n : ℕ) (a b : List ℕ) → m ≤ n → Keeps n a b → Keeps m a b
+pub keeps-less : (m n : ℕ) (a b : List ℕ) → m ≤ n → BindingsKept n a b → BindingsKept m a b
 keeps-less m n a b l k =
     record { long = k.long; entry = λ i q. k.entry i (omega arith); cell = λ i q. k.cell i (omega arith); others = k.others }
 
-pub within-agrees : (k m n : ℕ) (a b : List ℕ) → m ≤ n → Agrees m a b → Within k a n → Within k b m
+pub within-agrees : (k m n : ℕ) (a b : List ℕ) → m ≤ n → SameBindings m a b → WithinCopies k a n → WithinCopies k b m
 within-agrees k m n a b l h w =
     record {
       cell = λ i q. (let e : trail_at b i ≡ trail_at a i = h.entry i q in let z : trail_at a i < (k + 1) * copy_cells = w.cell i (omega arith) in omega arith);
@@ -219,7 +219,7 @@ module _ (state : List ℕ) (n x w : ℕ) (long : store_words ≤ length state) 
   bound-long = length-set (set state x w) (trail + n) x ∙ first-long
 
 -- an entry that stays: its words and the bindings before it are as they were
-entry-agrees : (ss : List Symbol) (nodes before after : List ℕ) (i n : ℕ) → i < n → Agrees n before after → TrailEntry ss nodes before i → TrailEntry ss nodes after i
+entry-agrees : (ss : List Symbol) (nodes before after : List ℕ) (i n : ℕ) → i < n → SameBindings n before after → TrailEntry ss nodes before i → TrailEntry ss nodes after i
 entry-agrees ss nodes before after i n l k e =
     let t : trail_at after i ≡ trail_at before i = k.entry i l in
     let c : cell_at after (trail_at after i) ≡ cell_at before (trail_at before i) = ap (cell_at after) t ∙ k.cell i l in
@@ -239,7 +239,7 @@ module _ (ss : List Symbol) (nodes state : List ℕ) (n x q d : ℕ) (store : St
   other : (i : ℕ) → i < n → trail_at state i ≡ x → ⊥
   other = unbound-apart ss nodes state n x store small unbound
 
-  pub bind-keeps : Keeps n state (bound_words state n x (word_of q d))
+  pub bind-keeps : BindingsKept n state (bound_words state n x (word_of q d))
   bind-keeps =
       record {
         long = bound-long state n x (word_of q d) store.long space small;
@@ -309,7 +309,7 @@ module _ (ss : List Symbol) (nodes state : List ℕ) (n x q d : ℕ) (store : St
             let o : (i : ℕ) × (i < n) × (trail_at state i ≡ y) = store.only y l (λ h. z (bound-cells state n x (word_of q d) store.long space small y l (eqb-false y x e) ∙ h)) in
             (o.0, (let h : o.0 < n = o.1 in omega arith), bind-keeps.entry o.0 o.1 ∙ o.2)
 
-  pub bind-within : (k : ℕ) → Within k state n → x < (k + 1) * copy_cells → d ≤ k → Within k (bound_words state n x (word_of q d)) (suc n)
+  pub bind-within : (k : ℕ) → WithinCopies k state n → x < (k + 1) * copy_cells → d ≤ k → WithinCopies k (bound_words state n x (word_of q d)) (suc n)
   bind-within k w l h =
       record { cell = λ i q1. cell-at i q1 (eqb i n) refl; copy = λ i q1. copy_at i q1 (eqb i n) refl }
     where
@@ -327,7 +327,7 @@ module _ (ss : List Symbol) (nodes state : List ℕ) (n : ℕ) (store : Store ss
   last-cell : trail_at state n < cells
   last-cell = (store.entry n (omega arith)).cell
 
-  pub undo-keeps : Keeps n state (set state (trail_at state n) 0)
+  pub undo-keeps : BindingsKept n state (set state (trail_at state n) 0)
   undo-keeps =
       let small : trail_at state n < cells = last-cell in
       record {
@@ -364,7 +364,7 @@ few ss nodes state n store = pigeonhole cells n (trail_at state) (λ i l. (store
     same-entry i j l h e = let a : i < j → ⊥ = (λ q. store.apart i j q h e) in let b : j < i → ⊥ = (λ q. store.apart j i q l (sym e)) in omega (arith, a, b)
 
 -- a store stays one where the cells and the first entries of the trail stay
-pub store-agrees : (ss : List Symbol) (nodes before after : List ℕ) (n : ℕ) → length after ≡ length before → ((y : ℕ) → y < cells → cell_at after y ≡ cell_at before y) → Agrees n before after → Store ss nodes before n → Store ss nodes after n
+pub store-agrees : (ss : List Symbol) (nodes before after : List ℕ) (n : ℕ) → length after ≡ length before → ((y : ℕ) → y < cells → cell_at after y ≡ cell_at before y) → SameBindings n before after → Store ss nodes before n → Store ss nodes after n
 store-agrees ss nodes before after n e same k store =
     record {
       long = (let l : store_words ≤ length before = store.long in omega (arith, e));
@@ -385,7 +385,7 @@ pub elsewhere : (state : List ℕ) (j v : ℕ) → store_words ≤ j → SameSto
 elsewhere state j v l = (length-set state j v, λ i h. get_or-set_other state j i v 0 (λ e. omega arith))
 
 module _ (ss : List Symbol) (nodes before after : List ℕ) (n : ℕ) (store : Store ss nodes before n) (same : SameStore before after) where
-  pub same-agrees : Agrees n before after
+  pub same-agrees : SameBindings n before after
   same-agrees =
       record {
         entry = λ i l. same.1 (trail + i) (let k : n ≤ cells = few ss nodes before n store in omega arith);

@@ -16,7 +16,7 @@ use Rattle.machine.specs.Unification.{unify}
 use Rattle.machine.specs.Machine.{Pending, Call, Alternative, pending, next_for, next_of, topmost, clause_at, new_alternative, gone, equated, moved_on, laid, tried, on_top, called, worked, worked_on, outcome, step}
 use Rattle.run_layout.specs.Regions.{frames, next_literal}
 use Rattle.run_layout.specs.Nodes.{Symbol}
-use Rattle.run_layout.specs.State.{bindings, Store, Within, Keeps}
+use Rattle.run_layout.specs.State.{bindings, Store, WithinCopies, BindingsKept}
 use Rattle.run_layout.specs.Program.{body_at, record_kind, other_at, Program}
 use Rattle.run_layout.specs.Pile.{body_then, Calls, caller_of, call_of, rest_from, left_behind, left_from, calls_up_to, copy_at, literal_at, next_at, mark_at, path_at, alternative_at, pile_of, RecordOf, NoJump, Frame, NextFor, Stacked, Piled}
 use Rattle.run_layout.proofs.State.{bindings-same}
@@ -224,9 +224,9 @@ pub record Going (ss : List Symbol) (sh : Sheet) (g : Goal) (nodes code state st
   pub piled : Piled ss sh g nodes code state (suc h) n
   pub mark : mark_at state h ≡ n
   pub path : path_at state h ≡ p
-  pub keeps : Keeps n state state1
+  pub keeps : BindingsKept n state state1
   pub store : Store ss nodes state1 n1
-  pub within : Within p state1 n1
+  pub within : WithinCopies p state1 n1
   pub more : n ≤ n1
   pub copy : c ≤ p
   pub left : left_from sh g code state1 p c l ≡ left_from sh g code state1 p (copy_at state h) to
@@ -321,7 +321,7 @@ module _ {ss : List Symbol} {sh : Sheet} {g : Goal} {nodes code state state1 sta
   on-top =
       topped ss sh g nodes code state1 state2 (suc h) n n p d m y below_left.piled (omega arith) path-low left.copy
       (λ j q. paths j q (eqb j h) refl) (λ j q. (below_left.piled.each j q).mark)
-      (subst (λ (k : ℕ). Within k state1 n) right.written.path (subst (Within (path_at state1 h) state1) right.written.mark (below_left.piled.each h (omega arith)).within))
+      (subst (λ (k : ℕ). WithinCopies k state1 n) right.written.path (subst (WithinCopies (path_at state1 h) state1) right.written.mark (below_left.piled.each h (omega arith)).within))
       (λ i q. same-frame sh g code state state1 longest_path same-frames i (let a : p ≤ longest_path = path-low in omega arith) (frames-low i q))
       left.fresh.stand left.written
     where

@@ -1,6 +1,6 @@
 -- Terms as they stand in the loaded node table, and terms of a copy read back from it.
 use Rattle.std.specs.Prelude.{ℕ, zero, suc, max, ◌+◌, ◌-◌, ◌≤◌, ◌≡◌, Bool, true, false, ◌&&◌, ◌||◌, List, [], ◌∷◌, ◌++◌, T, ltb, length, get_or}
-use Rattle.words.specs.Tables.{Has}
+use Rattle.words.specs.Tables.{WordsAt}
 use Rattle.syntax.specs.Words.{first_name}
 use Rattle.syntax.specs.Limits.{brackets}
 use Rattle.syntax.specs.Terms.{Term, Terms, variable, compound, nil, cons, arity, same_predicate}
@@ -67,12 +67,12 @@ unfoldable mutual
 
 -- a term, and some terms one behind the other, stand at p
 pub record TermLoaded (ss : List Symbol) (nodes : List ℕ) (p : ℕ) (t : Term) : Type 0 where
-  pub words : Has nodes p (loaded_words ss t)
+  pub words : WordsAt nodes p (loaded_words ss t)
   pub loadable : T (is_loadable ss t)
   pub shallow : brackets_of t ≤ brackets
 
 pub record TermsLoaded (ss : List Symbol) (nodes : List ℕ) (p : ℕ) (ts : Terms) : Type 0 where
-  pub words : Has nodes p (loaded_all ss ts)
+  pub words : WordsAt nodes p (loaded_all ss ts)
   pub loadable : T (are_loadable ss ts)
   pub shallow : brackets_all ts ≤ brackets + 1
 

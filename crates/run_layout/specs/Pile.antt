@@ -8,7 +8,7 @@ use Rattle.syntax.specs.Words.{literal_length, body_length}
 use Rattle.machine.specs.Machine.{Pending, Call, Alternative, pending, is_for, clause_at}
 use Rattle.run_layout.specs.Regions.{state_words, frame_of, alternative_of, literal_size, jump_kind, next_literal, literal_from}
 use Rattle.run_layout.specs.Nodes.{Symbol}
-use Rattle.run_layout.specs.State.{bindings, Store, Within}
+use Rattle.run_layout.specs.State.{bindings, Store, WithinCopies}
 use Rattle.run_layout.specs.Program.{body_at, record_kind, Program}
 
 -- ---- bodies
@@ -174,7 +174,7 @@ pub record Stacked (sh : Sheet) (g : Goal) (code state : List ℕ) (n j : ℕ) :
   pub low : path_at state j ≤ longest_path
   pub copy : copy_at state j ≤ path_at state j
   pub mark : mark_at state j ≤ n
-  pub within : Within (path_at state j) state (mark_at state j)
+  pub within : WithinCopies (path_at state j) state (mark_at state j)
   pub frame : (k : ℕ) → k < path_at state j → Frame sh g code state (suc k)
   pub place : RecordOf sh g code state (copy_at state j) (literal_at state j)
   pub stays : NoJump code (literal_at state j)

@@ -111,7 +111,7 @@ alternative_size = 6
 abbrev pub alternative_of : ℕ → ℕ
 alternative_of j = alternatives + j * alternative_size
 
--- The most alternatives: a copy adds at most its body's literals to those that can wait (machine's `Low`).
+-- The most alternatives: a copy adds at most its body's literals to those that can wait (`Low` of the crate machine).
 abbrev pub most_alternatives : ℕ
 most_alternatives = literals * copies
 

@@ -67,17 +67,17 @@ pub record Store (ss : List Symbol) (nodes state : List ℕ) (n : ℕ) : Type 0 
   pub only : (x : ℕ) → x < cells → (cell_at state x ≡ 0 → ⊥) → (i : ℕ) × (i < n) × (trail_at state i ≡ x)
 
 -- The entries and their terms belong to copies 0 to k.
-pub record Within (k : ℕ) (state : List ℕ) (n : ℕ) : Type 0 where
+pub record WithinCopies (k : ℕ) (state : List ℕ) (n : ℕ) : Type 0 where
   pub cell : (i : ℕ) → i < n → trail_at state i < (k + 1) * copy_cells
   pub copy : (i : ℕ) → i < n → copy_of (cell_at state (trail_at state i)) ≤ k
 
 -- The first n entries of the trail and their cells are as they were.
-pub record Agrees (n : ℕ) (before after : List ℕ) : Type 0 where
+pub record SameBindings (n : ℕ) (before after : List ℕ) : Type 0 where
   pub entry : (i : ℕ) → i < n → trail_at after i ≡ trail_at before i
   pub cell : (i : ℕ) → i < n → cell_at after (trail_at before i) ≡ cell_at before (trail_at before i)
 
 -- The same, and so is every word behind the trail.
-pub record Keeps (n : ℕ) (before after : List ℕ) : Type 0 where
+pub record BindingsKept (n : ℕ) (before after : List ℕ) : Type 0 where
   pub long : length after ≡ length before
   pub entry : (i : ℕ) → i < n → trail_at after i ≡ trail_at before i
   pub cell : (i : ℕ) → i < n → cell_at after (trail_at before i) ≡ cell_at before (trail_at before i)

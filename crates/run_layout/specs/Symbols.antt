@@ -6,7 +6,7 @@ use Rattle.syntax.specs.Limits.{lengths}
 abbrev pub texts : ℕ
 texts = 2
 
--- A symbol's word: the place of its name, the text, and its length.
+-- A symbol's word: the place of its name, the text, and its length, which is read as that of any part of a text (`span_length`).
 abbrev pub symbol_word : ℕ → ℕ → ℕ → ℕ
 symbol_word place text len = place * (texts * lengths) + text * lengths + len
 
@@ -15,6 +15,3 @@ symbol_place w = w / (texts * lengths)
 
 abbrev pub symbol_text : ℕ → ℕ
 symbol_text w = w / lengths % texts
-
-abbrev pub symbol_length : ℕ → ℕ
-symbol_length w = w % lengths

@@ -1,5 +1,6 @@
-// The regions of a run's tables (specs/Regions); what their words mean is defined in specs/. They are arrays of words on the native stack, with places in
-// them for links and 0 for none: a run allocates nothing (include/pilvaust.h), so there are no vectors, boxes or maps.
+// The tables of a run: where each region begins and how many records of how many words it has (specs/Regions), and the packing of words. What the words
+// mean is defined in specs/. The tables are arrays of 32-bit words on the native stack, since a run allocates nothing (include/pilvaust.h). A link is the
+// place of a record, and 0 stands for none. docs/ARCHITECTURE.md, "The tables", has all regions in one table.
 
 #![tactic(auto)]
 
@@ -10,7 +11,7 @@ pub mod terms;
 ghost use Rattle.std.specs.Prelude.{◌≡◌, ◌<◌, ◌^◌};
 ghost use Rattle.run_layout.specs.Regions.{copies, copy_cells, half_word};
 ghost use Rattle.run_layout.specs.Halves.{half, stored};
-ghost use Rattle.run_layout.specs.Symbols.{symbol_word, symbol_place, symbol_text, symbol_length};
+ghost use Rattle.run_layout.specs.Symbols.{symbol_word, symbol_place, symbol_text};
 ghost use Rattle.run_layout.specs.State.{cell_of, variable_of};
 
 use syntax::{
@@ -18,144 +19,201 @@ use syntax::{
     PROGRAM_CLAUSES, PROGRAM_WORDS,
 };
 
+/// The most copies on a path: the goal is copy 0, and each clause that is tried on the path makes one more.
 pub const COPIES: usize = LONGEST_PATH + 1;
 
+/// The cells of a copy: one for each number that a variable can have.
 pub const COPY_CELLS: usize = FIRST_NAME;
 
-// Loaded nodes.
+/// The words of a loaded node without its arguments.
 pub const LOADED_NODE: usize = 2;
 
+/// The most loaded nodes of a program and a goal, and so the most symbols.
 pub const MOST_NODES: usize = (PROGRAM_WORDS + GOAL_WORDS) / NODE_WORDS + 1;
 
+/// The words of the node table, and as many of the symbols' table.
 pub const NODES_WORDS: usize = MOST_NODES * LOADED_NODE;
 
-// Code.
+/// The words of a clause's record in the code.
 pub const CLAUSE_SIZE: usize = 4;
 
+/// The words of a record of a body.
 pub const LITERAL_SIZE: usize = 4;
 
-// The kinds of records of a body beside those of `syntax`. A record's kind is a word of the code, so it is a number here, as there.
+/// The kind of the record at a body's end. A record's kind is a word of the code, so it is a number; a plain literal has its kind of `syntax`.
 pub const END_KIND: usize = 4;
 
+/// The kind of a bracket's first record, where its two sides part.
 pub const SPLIT_KIND: usize = 5;
 
+/// The kind of the record at the end of a side, from which the run goes on behind the bracket.
 pub const JUMP_KIND: usize = 6;
 
+/// The most records of a body before its end: one for each literal, and three for each bracket, of which there are fewer than literals.
 pub const MOST_ITEMS: usize = 4 * LITERALS - 3;
 
+/// Where the bodies begin in the code, the goal's first.
 pub const BODIES: usize = (PROGRAM_CLAUSES + 1) * CLAUSE_SIZE;
 
+/// Where the bodies of the clauses begin, behind room for the longest goal.
 pub const CLAUSE_BODIES: usize = BODIES + (MOST_ITEMS + 1) * LITERAL_SIZE;
 
+/// The words of the code.
 pub const CODE_WORDS: usize = BODIES + ((CLAUSES + 1) * (MOST_ITEMS + 1) + FACTS) * LITERAL_SIZE;
 
-// State.
+/// The number of cells. They stand at the beginning of the state.
 pub const CELLS: usize = COPIES * COPY_CELLS;
 
+/// Where the trail begins; it has room for every cell.
 pub const TRAIL: usize = CELLS;
 
+/// The words of cells and trail, with which both state and scratch begin.
 pub const STORE_WORDS: usize = TRAIL + CELLS;
 
+/// Where the frames of copies begin in the state.
 pub const FRAMES: usize = STORE_WORDS;
 
+/// The words of a frame.
 pub const FRAME_SIZE: usize = 4;
 
+/// Where the pile of alternatives begins in the state, the lowest first.
 pub const ALTERNATIVES: usize = FRAMES + COPIES * FRAME_SIZE;
 
+/// The words of an alternative.
 pub const ALTERNATIVE_SIZE: usize = 6;
 
+/// The most alternatives on the pile: a copy adds at most its body's literals to those that can wait.
 pub const MOST_ALTERNATIVES: usize = LITERALS * COPIES;
 
+/// The words of the state.
 pub const STATE_WORDS: usize = ALTERNATIVES + MOST_ALTERNATIVES * ALTERNATIVE_SIZE;
 
-// Scratch.
+/// Where the topological order of cells begins in the scratch words: the list of ordered cells.
 pub const ORDER: usize = STORE_WORDS;
 
+/// Where the places of cells in that list begin, one word a cell.
 pub const ORDER_PLACES: usize = ORDER + CELLS;
 
+/// Where the terms with a bound begin. A term's bound says how far into the list its variables stand.
 pub const BOUND_LIST: usize = ORDER_PLACES + CELLS;
 
+/// The most terms with a bound.
 pub const BOUND_COUNT: usize = 1024;
 
+/// The words of such a term.
 pub const BOUND_SIZE: usize = 2;
 
+/// Where the slots of these terms begin, one word each.
 pub const BOUND_SLOTS: usize = BOUND_LIST + BOUND_COUNT * BOUND_SIZE;
 
+/// The word with the length of the list of ordered cells.
 pub const ORDER_WORD: usize = BOUND_SLOTS + BOUND_COUNT;
 
+/// The word with the number of terms with a bound.
 pub const BOUNDS_WORD: usize = ORDER_WORD + 1;
 
+/// The word with the purse: how many more words the occurs check may look at before the order is made anew.
 pub const PURSE_WORD: usize = BOUNDS_WORD + 1;
 
+/// The word with the size of the purse when it was full.
 pub const PURSE_SIZE: usize = PURSE_WORD + 1;
 
+/// Where the work stack of unification begins, and the open brackets of an answer that is spelt.
 pub const STACK: usize = PURSE_SIZE + 1;
 
+/// The words of one side of a pair on the work stack.
 pub const SIDE_SIZE: usize = 3;
 
+/// The words of a pair on the work stack.
 pub const PAIR_SIZE: usize = 2 * SIDE_SIZE;
 
+/// The most pairs on the work stack.
 pub const PAIRS: usize = 2 * CELLS + 1;
 
+/// Where the short cuts through chains of variables begin.
 pub const CUT_LIST: usize = STACK + PAIRS * PAIR_SIZE;
 
+/// The most short cuts.
 pub const CUT_COUNT: usize = 2048;
 
+/// The words of a short cut.
 pub const CUT_SIZE: usize = 2;
 
+/// The word with the number of short cuts.
 pub const CUTS_WORD: usize = CUT_LIST + CUT_COUNT * CUT_SIZE;
 
+/// The word with the number of classes of equal terms. The memo of unification begins with it.
 pub const MEMO: usize = CUTS_WORD + 1;
 
+/// The word with the number of rows of the memo.
 pub const ROWS_WORD: usize = MEMO + 1;
 
+/// Where the slots begin: in its lower half a slot has the number of a row of the memo, in its higher half that of a short cut.
 pub const SLOTS: usize = ROWS_WORD + 1;
 
+/// The number of slots.
 pub const SLOT_COUNT: usize = 16384;
 
+/// Where the keys of the memo's rows begin, one word a row: the node whose copies the row is for.
 pub const KEYS: usize = SLOTS + SLOT_COUNT;
 
+/// The most rows of the memo that have a key, however long the scratch words are.
 pub const KEY_COUNT: usize = 4096;
 
+/// Where the classes of equal terms begin.
 pub const CLASSES: usize = KEYS + KEY_COUNT;
 
+/// The words of a class.
 pub const CLASS_SIZE: usize = 2;
 
+/// The most classes of equal terms.
 pub const CLASS_COUNT: usize = CELLS + COPIES;
 
+/// Where the weights of the pairs on the work stack begin, one word for each height.
 pub const WEIGHTS: usize = CLASSES + CLASS_COUNT * CLASS_SIZE;
 
+/// The number of heights that the work stack can have, 0 among them.
 pub const HEIGHTS: usize = PAIRS + 1;
 
+/// Where the rows of the memo begin. They take what is left of the scratch words.
 pub const ROWS: usize = WEIGHTS + HEIGHTS;
 
+/// The words of a row: half a word for each copy.
 pub const ROW_WORDS: usize = COPIES / 2;
 
+/// The numbers that half a word can hold are below this one.
 pub const HALF_WORD: usize = 65536;
 
-// Answers.
+/// The most brackets that an answer's value can have open at once: those of every bound term and of the goal's, one inside the other.
 pub const DEEPEST: usize = (CELLS + 1) * BRACKETS;
 
+/// The words for one open bracket of a value that is spelt. They stand in scratch from `STACK` on.
 pub const OPEN_SIZE: usize = 2;
 
-// How many scratch words a run has.
+/// The most bytes of a short sheet: with a short text too, less scratch is cleared.
 pub const SHORT_SHEET: usize = 2048;
 
+/// The most bytes of a short text, the lent one into which answers are written.
 pub const SHORT_TEXT: usize = 131072;
 
+/// The rows of the memo that a run has under a short sheet with a short text.
 pub const NARROW_ROWS: usize = 304;
 
+/// The scratch words of a run under a short sheet with a short text, and of a test for at most one answer.
 pub const NARROW_WORDS: usize = ROWS + NARROW_ROWS * ROW_WORDS;
 
+/// The scratch words of any other run: room for the open brackets of every answer.
 pub const WIDE_WORDS: usize = STACK + DEEPEST * OPEN_SIZE;
 
-// The texts that a name can stand in, and room for them and a length behind a place.
+// The texts that a name can stand in.
 const TEXTS: usize = 2;
 
+// Room for a text and a length behind a place.
 const SYMBOL_PLACES: usize = TEXTS * LENGTHS;
 
-// A symbol's word (specs/Symbols): the place of its name, the text, 0 for the sheet and 1 for the goal, and its length. The text is a part of a word, and any
-// number that fits may be packed, so it is a number here; above it is `load::node_words::Source`, or the text itself (`symbols::text_of`).
+/// A symbol's word (specs/Symbols): the place of its name, the text, 0 for the sheet and 1 for the goal, and its length in bytes, which
+/// `words::packing::span_length` reads. The text is a number, since
+/// it is a part of a word; elsewhere it is `load::node_words::Source`, or the text itself (`symbols::text_of`).
 pub fn pack_symbol(place: usize, text: usize, len: usize) -> u32
     requires { symbol_word place text len < 2 ^ 32 }
     ensures { result ≡ symbol_word place text len }
@@ -164,7 +222,7 @@ pub fn pack_symbol(place: usize, text: usize, len: usize) -> u32
     w as u32
 }
 
-// The place of a symbol's name.
+/// The place of a symbol's name, its first byte in the text.
 pub fn symbol_place(word: u32) -> usize
     ensures { result ≡ symbol_place word }
 {
@@ -172,7 +230,7 @@ pub fn symbol_place(word: u32) -> usize
     w / SYMBOL_PLACES
 }
 
-// Its text, a number as above.
+/// The text of a symbol's name: 0 for the sheet, 1 for the goal.
 pub fn symbol_text(word: u32) -> usize
     ensures { result ≡ symbol_text word }
 {
@@ -180,15 +238,7 @@ pub fn symbol_text(word: u32) -> usize
     w / LENGTHS % TEXTS
 }
 
-// Its length. (`words::packing::span_length` computes so too: each word is unpacked by the crate that packs it.)
-pub fn symbol_length(word: u32) -> usize
-    ensures { result ≡ symbol_length word }
-{
-    let w = word as usize;
-    w % LENGTHS
-}
-
-// The cell of a copy's variable (specs/State).
+/// The cell of a copy's variable (specs/State).
 pub fn cell_of(copy: usize, number: usize) -> usize
     requires { (copy < copies) × (number < copy_cells) }
     ensures { result ≡ cell_of copy number }
@@ -196,15 +246,15 @@ pub fn cell_of(copy: usize, number: usize) -> usize
     copy * COPY_CELLS + number
 }
 
-// The copy whose variable a cell belongs to.
+/// The copy to whose variable a cell belongs.
 pub fn cell_copy(cell: usize) -> usize
     ensures { result ≡ (variable_of cell).copy }
 {
     cell / COPY_CELLS
 }
 
-// Half of a word (specs/Halves): the lower where h is 0, else the higher. It is a number since rows of halves are counted through (`bindings::memos::number_in`):
-// the half is what is left of a place divided by two.
+/// Half of a word (specs/Halves): the lower where h is 0, else the higher. The half is a number, since rows of halves are counted through
+/// (`bindings::memos`).
 pub fn half_of(h: usize, w: usize) -> usize
     ensures { result ≡ half h w }
 {
@@ -214,7 +264,7 @@ pub fn half_of(h: usize, w: usize) -> usize
     w / HALF_WORD % HALF_WORD
 }
 
-// A word with another number in that half.
+/// The word w with the number i in half h; the other half stays.
 pub fn with_half(h: usize, w: usize, i: usize) -> u32
     requires { i < half_word }
     ensures { result ≡ stored h w i }

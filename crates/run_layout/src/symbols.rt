@@ -4,7 +4,7 @@ ghost use Rattle.run_layout.specs.SymbolNames.{text_of};
 
 use crate::symbol_text;
 
-// The text of which a symbol's word gives a part. (In the word a text is a number: `pack_symbol`.)
+/// The text in which the name of a symbol's word stands: the sheet or the goal.
 pub fn text_of<'a>(w: u32, sheet: &'a [u8], goal: &'a [u8]) -> &'a [u8]
     ensures { result.now ≡ text_of w sheet.now goal.now }
 {

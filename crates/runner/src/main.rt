@@ -1,21 +1,26 @@
-// Runs the goal in the file `goal` over the sheet in the file `sheet` and the recorded session in the file `trace`, within 65,536 steps, for at most 16
-// answers of at most 4,096 bytes together, and prints the answers and the report. A file that cannot be read counts as empty. One byte more than the
-// limit is read, so that a text past it is known by its length.
+// The runner (RULES, "Two programs and what they print"): runs the goal in the file `goal` over the sheet in the file `sheet` and the recorded session in
+// the file `trace`, within 65,536 steps, for at most 16 answers of at most 4,096 bytes together, and prints the answers and the report. A file that cannot be
+// read counts as empty. One byte more than the limit is read of each, so that a text past it is known by its length.
 
 #![tactic(auto)]
 
-use in_reading::read_file;
+use input::read_file;
 use std::io;
 use syntax::{GOAL_BYTES, MOST_STEPS, RunSettings, SHEET_BYTES, TRACE_BYTES};
 
+// How many bytes of the sheet are read at most.
 const SHEET_ROOM: usize = SHEET_BYTES + 1;
 
+// How many bytes of the goal are read at most.
 const GOAL_ROOM: usize = GOAL_BYTES + 1;
 
+// How many bytes of the trace are read at most.
 const TRACE_ROOM: usize = TRACE_BYTES + 1;
 
+// The most answers that are wanted.
 const ANSWERS: usize = 16;
 
+// The bytes of text that the run is lent for its answers.
 const TEXT_BYTES: usize = 4096;
 
 fn main(rt: HostRuntime) -> io::Result<()> {

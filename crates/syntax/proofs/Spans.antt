@@ -11,7 +11,7 @@ use lib.Dec.{eqb}
 use borrow.Author.Tests.{eqb-true, eqb-false}
 use Rattle.syntax.specs.Limits.{lengths, variables}
 use Rattle.syntax.specs.Tokens.{spelling}
-use Rattle.syntax.specs.Spans.{packed, span_at, span_length, spanned, SpanInside, names_from, met, Held}
+use Rattle.syntax.specs.Spans.{packed, span_at, span_length, spanned, SpanInside, names_from, met, SpansInside}
 
 -- ---- packing
 
@@ -58,16 +58,16 @@ names-new s words k w h =
     ∙ names_more s (set words k w) 0 k
     ∙ ap₂ (λ (l : List (List ℕ)) (x : ℕ). l ++ (spanned s x ∷ [])) (names-set s words 0 k k w (omega arith)) (ap (λ (j : ℕ). get_or (set words k w) j 0) none ∙ get_or-set_same words k w 0 h)
 
-new-inside : (s words : List ℕ) (k w : ℕ) → k < length words → SpanInside s w → Held s words k → (i : ℕ) → i < k + 1 → (b : Bool) → eqb i k ≡ b → SpanInside s (get_or (set words k w) i 0)
+new-inside : (s words : List ℕ) (k w : ℕ) → k < length words → SpanInside s w → SpansInside s words k → (i : ℕ) → i < k + 1 → (b : Bool) → eqb i k ≡ b → SpanInside s (get_or (set words k w) i 0)
 new-inside s words k w low h f i less true e = subst⁻¹ (λ (j : ℕ). SpanInside s (get_or (set words k w) j 0)) (eqb-true i k e) (subst⁻¹ (SpanInside s) (get_or-set_same words k w 0 low) h)
 new-inside s words k w low h f i less false e =
     let ne : i ≡ k → ⊥ = eqb-false i k e in
     subst⁻¹ (SpanInside s) (get_or-set_other words k i w 0 ne) (f.inside i (omega arith))
 
-pub held_new : (s words : List ℕ) (k w : ℕ) → k < length words → SpanInside s w → Held s words k → Held s (set words k w) (k + 1)
+pub held_new : (s words : List ℕ) (k w : ℕ) → k < length words → SpanInside s w → SpansInside s words k → SpansInside s (set words k w) (k + 1)
 held_new s words k w low h f = record { inside = λ i less. new-inside s words k w low h f i less (eqb i k) refl }
 
-pub held_none : (s words : List ℕ) → Held s words 0
+pub held_none : (s words : List ℕ) → SpansInside s words 0
 held_none s words = record { inside = λ i h. absurd (omega arith) }
 
 -- ---- the last words of a table

@@ -7,6 +7,7 @@ use Rattle.syntax.specs.declared.Five.{Five}
 use Rattle.syntax.specs.declared.Refusal.{Refusal}
 use Rattle.syntax.specs.declared.Refusal.TheVariants.{Settings, TooLong, NoToken, Overlong, Misplaced, OverLimit, Repeated, Undeclared, OpenInput}
 use Rattle.syntax.specs.declared.Refusal.TheVariants.{OpenOutput, BadTrace, TraceOverLimit, SeenUndeclared, Unwritten}
+use Rattle.syntax.specs.declared.Refusal.TheVariants.{OutputTooLong, WardSettings, BadWorkings, LineTooLong}
 
 abbrev pub five : ℕ → ℕ → ℕ → ℕ → ℕ → Five
 five n b c l a = record { number = n; byte = b; clause = c; literal = l; argument = a }
@@ -27,3 +28,7 @@ numbers_of (BadTrace byte) = five 13 byte 0 0 0
 numbers_of TraceOverLimit = five 14 0 0 0 0
 numbers_of SeenUndeclared = five 15 0 0 0 0
 numbers_of (Unwritten byte) = five 16 byte 0 0 0
+numbers_of OutputTooLong = five 11 0 0 0 0
+numbers_of WardSettings = five 12 0 0 0 0
+numbers_of (BadWorkings byte) = five 17 byte 0 0 0
+numbers_of LineTooLong = five 18 0 0 0 0

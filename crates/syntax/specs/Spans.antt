@@ -30,5 +30,5 @@ abbrev pub met : List ℕ → List ℕ
 met table = drop (length table - variables) table
 
 -- the first k of these words lie within the text
-pub record Held (s words : List ℕ) (k : ℕ) : Type 0 where
+pub record SpansInside (s words : List ℕ) (k : ℕ) : Type 0 where
   pub inside : (i : ℕ) → i < k → SpanInside s (get_or words i 0)

@@ -114,20 +114,20 @@ dash_first [] = false
 dash_first (b ∷ s) = eqb b 45
 
 -- the token whose first byte, of a class, stands at a place, with the bytes after it; a blank and the percent sign are passed before
-unfoldable pub token_of : Class → ℕ → List ℕ → Token
-token_of Lower at s = word name_kind at (suc (run_length in_word s))
-token_of Upper at s = word variable_kind at (suc (run_length in_word s))
-token_of Digit at s = word numeral_kind at (suc (run_length in_numeral s))
-token_of Colon at s = record { kind = cond (dash_first s) neck_kind no_token; at = at; len = cond (dash_first s) 2 1 }
-token_of (Single kind) at s = record { kind = kind; at = at; len = 1 }
-token_of Nothing at s = record { kind = no_token; at = at; len = 1 }
-token_of Blank at s = record { kind = no_token; at = at; len = 1 }
-token_of Percent at s = record { kind = no_token; at = at; len = 1 }
+unfoldable pub token_of_class : Class → ℕ → List ℕ → Token
+token_of_class Lower at s = word name_kind at (suc (run_length in_word s))
+token_of_class Upper at s = word variable_kind at (suc (run_length in_word s))
+token_of_class Digit at s = word numeral_kind at (suc (run_length in_numeral s))
+token_of_class Colon at s = record { kind = cond (dash_first s) neck_kind no_token; at = at; len = cond (dash_first s) 2 1 }
+token_of_class (Single kind) at s = record { kind = kind; at = at; len = 1 }
+token_of_class Nothing at s = record { kind = no_token; at = at; len = 1 }
+token_of_class Blank at s = record { kind = no_token; at = at; len = 1 }
+token_of_class Percent at s = record { kind = no_token; at = at; len = 1 }
 
 -- the token at a place, of the text from there on
 unfoldable pub token_from : ℕ → List ℕ → Token
 token_from at [] = record { kind = end_kind; at = at; len = 0 }
-token_from at (b ∷ s) = token_of (class_of b) at s
+token_from at (b ∷ s) = token_of_class (class_of b) at s
 
 -- where the first token from a position on begins
 unfoldable pub token_place : List ℕ → ℕ → ℕ

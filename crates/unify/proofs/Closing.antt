@@ -13,7 +13,7 @@ use Rattle.run_layout.specs.Nodes.{Symbol, terms_at, followed}
 use Rattle.bindings.specs.declared.stack.Side.{Side}
 use Rattle.unify.specs.Rows.{unify_rows}
 use Rattle.unify.specs.Walks.{StopsAt, Walks}
-use Rattle.unify.specs.Stacks.{whole_of, row_of, SameRows, no_term, Closes}
+use Rattle.unify.specs.Stacks.{whole_of, row_of, SameRows, no_term, WholesEqual}
 use Rattle.std.proofs.Common.{Ok}
 use Rattle.unify.proofs.Rules.{rows-done, rows-equal, equal-rows, tail-of, args-of-app}
 
@@ -62,7 +62,7 @@ under k h l q = let z : k ≡ h → ⊥ = eqb-false k h q in omega (arith, z)
 
 module _ (ss : List Symbol) (nodes : List ℕ) (b : List Binding) (l r : ℕ → Side) where
   -- sides that are as they were
-  pub closes-agree : (l' r' : ℕ → Side) (h : ℕ) (t u : RTerm) → ((k : ℕ) → k < h → l' k ≡ l k) → ((k : ℕ) → k < h → r' k ≡ r k) → Closes ss nodes b l r h t u → Closes ss nodes b l' r' h t u
+  pub closes-agree : (l' r' : ℕ → Side) (h : ℕ) (t u : RTerm) → ((k : ℕ) → k < h → l' k ≡ l k) → ((k : ℕ) → k < h → r' k ≡ r k) → WholesEqual ss nodes b l r h t u → WholesEqual ss nodes b l' r' h t u
   closes-agree l' r' h t u a a1 c =
       record {
         wholes = λ k o newer e rows.
@@ -72,15 +72,15 @@ module _ (ss : List Symbol) (nodes : List ℕ) (b : List Binding) (l r : ℕ →
       }
 
   -- the two terms before the rows are equal already
-  pub closes-settled : (h : ℕ) (t u : RTerm) → resolve b t ≡ resolve b u → Closes ss nodes b l r h t u → Closes ss nodes b l r h no_term no_term
+  pub closes-settled : (h : ℕ) (t u : RTerm) → resolve b t ≡ resolve b u → WholesEqual ss nodes b l r h t u → WholesEqual ss nodes b l r h no_term no_term
   closes-settled h t u q c = record { wholes = λ k o newer e rows. c.wholes k o newer ((grows-more newer b).stays_equal t u q) rows }
 
   -- other terms before the rows, equal to these
-  pub closes-terms : (h : ℕ) (t u t1 u1 : RTerm) → resolve b t1 ≡ resolve b t → resolve b u1 ≡ resolve b u → Closes ss nodes b l r h t u → Closes ss nodes b l r h t1 u1
+  pub closes-terms : (h : ℕ) (t u t1 u1 : RTerm) → resolve b t1 ≡ resolve b t → resolve b u1 ≡ resolve b u → WholesEqual ss nodes b l r h t u → WholesEqual ss nodes b l r h t1 u1
   closes-terms h t u t1 u1 q q1 c = record { wholes = λ k o newer e rows. c.wholes k o newer (sym ((grows-more newer b).stays_equal t1 t q) ∙ (e ∙ (grows-more newer b).stays_equal u1 u q1)) rows }
 
   -- one binding more, which makes them equal
-  pub closes-bound : (h : ℕ) (t u : RTerm) (new : Binding) → resolve (new ∷ b) t ≡ resolve (new ∷ b) u → Closes ss nodes b l r h t u → Closes ss nodes (new ∷ b) l r h no_term no_term
+  pub closes-bound : (h : ℕ) (t u : RTerm) (new : Binding) → resolve (new ∷ b) t ≡ resolve (new ∷ b) u → WholesEqual ss nodes b l r h t u → WholesEqual ss nodes (new ∷ b) l r h no_term no_term
   closes-bound h t u new q c =
       record {
         wholes = λ k o newer e rows.
@@ -89,7 +89,7 @@ module _ (ss : List Symbol) (nodes : List ℕ) (b : List Binding) (l r : ℕ →
       }
 
   -- the top gone, what is left of whose rows is the same
-  pub closes-less : (h : ℕ) → SameRows ss nodes b (l h) (r h) → Closes ss nodes b l r (suc h) no_term no_term → Closes ss nodes b l r h no_term no_term
+  pub closes-less : (h : ℕ) → SameRows ss nodes b (l h) (r h) → WholesEqual ss nodes b l r (suc h) no_term no_term → WholesEqual ss nodes b l r h no_term no_term
   closes-less h q c = record { wholes = λ k o newer e rows. c.wholes k (omega arith) newer e (λ j x y. go k newer rows j x y (eqb j h) refl) }
     where
       go : (k : ℕ) (newer : List Binding) → ((j : ℕ) → k ≤ j → j < h → SameRows ss nodes (newer ++ b) (l j) (r j)) → (j : ℕ) → k ≤ j → j < suc h → (z : Bool) → eqb j h ≡ z → SameRows ss nodes (newer ++ b) (l j) (r j)
@@ -97,13 +97,13 @@ module _ (ss : List Symbol) (nodes : List ℕ) (b : List Binding) (l r : ℕ →
       go k newer rows j x y false z = rows j x (under j h y z)
 
   -- the wholes of the first pair, whose rows are these
-  pub closes-first : ((newer : List Binding) → SameRows ss nodes (newer ++ b) (l 0) (r 0) → resolve (newer ++ b) (whole_of ss nodes (l 0)) ≡ resolve (newer ++ b) (whole_of ss nodes (r 0))) → Closes ss nodes b l r 1 no_term no_term
+  pub closes-first : ((newer : List Binding) → SameRows ss nodes (newer ++ b) (l 0) (r 0) → resolve (newer ++ b) (whole_of ss nodes (l 0)) ≡ resolve (newer ++ b) (whole_of ss nodes (r 0))) → WholesEqual ss nodes b l r 1 no_term no_term
   closes-first f =
       record { wholes = λ k o newer e rows. subst⁻¹ (λ (i : ℕ). resolve (newer ++ b) (whole_of ss nodes (l i)) ≡ resolve (newer ++ b) (whole_of ss nodes (r i))) (let z : k ≡ 0 = omega arith in z) (f newer (rows 0 (omega arith) (omega arith))) }
 
   -- the top moved on within its rows, past two terms
   pub closes-moved : (l' r' : ℕ → Side) (h i j : ℕ) (t u : RTerm) → ((k : ℕ) → k < h → l' k ≡ l k) → ((k : ℕ) → k < h → r' k ≡ r k) → l' h ≡ record { root = (l h).root; at = i; copy = (l h).copy } → r' h ≡ record { root = (r h).root; at = j; copy = (r h).copy }
-      → ((newer : List Binding) → resolve (newer ++ b) t ≡ resolve (newer ++ b) u → SameRows ss nodes (newer ++ b) (l' h) (r' h) → SameRows ss nodes (newer ++ b) (l h) (r h)) → Closes ss nodes b l r (suc h) no_term no_term → Closes ss nodes b l' r' (suc h) t u
+      → ((newer : List Binding) → resolve (newer ++ b) t ≡ resolve (newer ++ b) u → SameRows ss nodes (newer ++ b) (l' h) (r' h) → SameRows ss nodes (newer ++ b) (l h) (r h)) → WholesEqual ss nodes b l r (suc h) no_term no_term → WholesEqual ss nodes b l' r' (suc h) t u
   closes-moved l' r' h i j t u a a1 m m1 f c =
       record {
         wholes = λ k o newer e rows.
@@ -124,7 +124,7 @@ module _ (ss : List Symbol) (nodes : List ℕ) (b : List Binding) (l r : ℕ →
 
   -- the two terms opened as a new top
   pub closes-pushed : (l' r' : ℕ → Side) (h : ℕ) (t u : RTerm) → ((k : ℕ) → k < h → l' k ≡ l k) → ((k : ℕ) → k < h → r' k ≡ r k) → whole_of ss nodes (l' h) ≡ t → whole_of ss nodes (r' h) ≡ u
-      → ((newer : List Binding) → SameRows ss nodes (newer ++ b) (l' h) (r' h) → resolve (newer ++ b) t ≡ resolve (newer ++ b) u) → Closes ss nodes b l r h t u → Closes ss nodes b l' r' (suc h) no_term no_term
+      → ((newer : List Binding) → SameRows ss nodes (newer ++ b) (l' h) (r' h) → resolve (newer ++ b) t ≡ resolve (newer ++ b) u) → WholesEqual ss nodes b l r h t u → WholesEqual ss nodes b l' r' (suc h) no_term no_term
   closes-pushed l' r' h t u a a1 m m1 f c = record { wholes = λ k o newer e rows. go k o newer rows (eqb k h) refl }
     where
       go : (k : ℕ) → k < suc h → (newer : List Binding) → ((x : ℕ) → k ≤ x → x < suc h → SameRows ss nodes (newer ++ b) (l' x) (r' x)) → (z : Bool) → eqb k h ≡ z → resolve (newer ++ b) (whole_of ss nodes (l' k)) ≡ resolve (newer ++ b) (whole_of ss nodes (r' k))

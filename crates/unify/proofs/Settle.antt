@@ -24,7 +24,7 @@ use Rattle.run_layout.specs.declared.terms.At.{At}
 use Rattle.bindings.specs.declared.stack.Side.{Side}
 use Rattle.bindings.proofs.Remembering.{value-word, memo-kept, memo-found}
 use Rattle.unify.specs.Rows.{unify_rows, nodes_of, rows_size}
-use Rattle.unify.specs.Stacks.{inner_row, end_of, whole_of, row_of, rows_of, Via, Stack, no_term, Closes}
+use Rattle.unify.specs.Stacks.{inner_row, end_of, whole_of, row_of, rows_of, OpenedByCell, Stack, no_term, WholesEqual}
 use Rattle.unify.specs.Turns.{Dereferenced, Crossed, Openable, PairTurned}
 use Rattle.std.proofs.Common.{Ok, Err}
 use Rattle.unify.specs.Turns.{Turn}
@@ -246,13 +246,13 @@ module _ {nodes scratch : List ℕ} {h : ℕ} {p q : At} (g : Crossed nodes scra
               ap (λ (s : Side). count (terms_at g.work.ss nodes s.at (end_of nodes s) i)) (a k (under k o z))
               ∙ (g.work.stack.same k (under k o z) i j ∙ sym (ap (λ (s : Side). count (terms_at g.work.ss nodes s.at (end_of nodes s) j)) (a1 k (under k o z))))
 
-          via-at : (k : ℕ) → 1 ≤ k → k < suc h → (z : Bool) → eqb k h ≡ z → Via b (pick z k) (whole_of g.work.ss nodes (l k)) (whole_of g.work.ss nodes (r k))
+          via-at : (k : ℕ) → 1 ≤ k → k < suc h → (z : Bool) → eqb k h ≡ z → OpenedByCell b (pick z k) (whole_of g.work.ss nodes (l k)) (whole_of g.work.ss nodes (r k))
           via-at k o i true z =
-              subst⁻¹ (λ (s : Side). Via b g.via (whole_of g.work.ss nodes s) (whole_of g.work.ss nodes (r k))) (ap l (eqb-true k h z) ∙ e)
-              (subst⁻¹ (λ (s : Side). Via b g.via t (whole_of g.work.ss nodes s)) (ap r (eqb-true k h z) ∙ e1) (g.via_is w hp))
+              subst⁻¹ (λ (s : Side). OpenedByCell b g.via (whole_of g.work.ss nodes s) (whole_of g.work.ss nodes (r k))) (ap l (eqb-true k h z) ∙ e)
+              (subst⁻¹ (λ (s : Side). OpenedByCell b g.via t (whole_of g.work.ss nodes s)) (ap r (eqb-true k h z) ∙ e1) (g.via_is w hp))
           via-at k o i false z =
-              subst⁻¹ (λ (s : Side). Via b (g.work.stack.via k) (whole_of g.work.ss nodes s) (whole_of g.work.ss nodes (r k))) (a k (under k i z))
-              (subst⁻¹ (λ (s : Side). Via b (g.work.stack.via k) (whole_of g.work.ss nodes (left_at scratch k)) (whole_of g.work.ss nodes s)) (a1 k (under k i z)) (g.work.stack.vias k o (under k i z)))
+              subst⁻¹ (λ (s : Side). OpenedByCell b (g.work.stack.via k) (whole_of g.work.ss nodes s) (whole_of g.work.ss nodes (r k))) (a k (under k i z))
+              (subst⁻¹ (λ (s : Side). OpenedByCell b (g.work.stack.via k) (whole_of g.work.ss nodes (left_at scratch k)) (whole_of g.work.ss nodes s)) (a1 k (under k i z)) (g.work.stack.vias k o (under k i z)))
 
       -- there is room for it
       settle-height : suc h ≤ pairs
@@ -319,7 +319,7 @@ module _ {nodes scratch : List ℕ} {h : ℕ} {p q : At} (g : Crossed nodes scra
                   let o : rows_size b (rows_of g.work.ss nodes (left_at laid) (h + 1)) ≡ rows_size b al + rows_size b ls = ap (rows_size b) left-rows ∙ size-followed b al ls in
                   omega arith);
               memo = memo-kept g.work.ss nodes b scratch g.work.memo laid (λ j o. pair-others scratch h (inner_row p) (inner_row q) settle-room j (inr (let z : suc h ≤ pairs = settle-height in omega arith)));
-              closes = subst (λ (i : ℕ). Closes g.work.ss nodes b (left_at laid) (right_at laid) i no_term no_term) more
+              closes = subst (λ (i : ℕ). WholesEqual g.work.ss nodes b (left_at laid) (right_at laid) i no_term no_term) more
                   (closes-pushed g.work.ss nodes b (left_at scratch) (right_at scratch) (left_at laid) (right_at laid) h t u l-below r-below
                   (ap (whole_of g.work.ss nodes) l_top) (ap (whole_of g.work.ss nodes) r_top)
                   (λ newer e1. opens newer (sym (ap (λ (s : Side). resolve (newer ++ b) (app [] (row_of g.work.ss nodes s))) l_top) ∙ (e1 ∙ ap (λ (s : Side). resolve (newer ++ b) (app [] (row_of g.work.ss nodes s))) r_top))) g.closes);

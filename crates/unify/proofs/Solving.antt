@@ -9,7 +9,7 @@ use lib.ListN.{length}
 use Rattle.machine.specs.Substitution.{rnil, occurs, Binding, resolve}
 use Rattle.run_layout.specs.Regions.{copies, places, cells, trail, store_words, pairs, rows, loaded_node}
 use Rattle.run_layout.specs.Nodes.{Symbol, term_at}
-use Rattle.run_layout.specs.State.{variable_of, word_of, bindings, Store, Within, Keeps, bound_words}
+use Rattle.run_layout.specs.State.{variable_of, word_of, bindings, Store, WithinCopies, BindingsKept, bound_words}
 use Rattle.run_layout.proofs.Nodes.{node-inside}
 use Rattle.run_layout.proofs.State.{bind-store, bind-keeps, bind-means, bind-within, keeps-refl, keeps-trans, room}
 use Rattle.bindings.specs.Queues.{Clean, Closed, Closing}
@@ -22,8 +22,8 @@ use Rattle.bindings.specs.Orders.{Ordered}
 use Rattle.bindings.proofs.Lists.{ordered-kept}
 use Rattle.unify.specs.Checks.{Guardable, Guarded}
 use Rattle.unify.specs.Rows.{unify_rows, rows_size}
-use Rattle.unify.specs.Stacks.{rows_of, Stack, no_term, Closes}
-use Rattle.unify.specs.Turns.{Work, over, Goes, Binds, TurnGives, Turnable, ReadyToUnify, Advanced, Solvable, Solved, answered}
+use Rattle.unify.specs.Stacks.{rows_of, Stack, no_term, WholesEqual}
+use Rattle.unify.specs.Turns.{Work, over, RowsLeft, BindingDue, TurnGives, Turnable, ReadyToUnify, Advanced, Solvable, Solved, answered}
 use Rattle.std.proofs.Common.{Ok, Err}
 use Rattle.unify.specs.Turns.{Turn, TurnsTaken}
 use Rattle.unify.specs.declared.solve.TurnStop.{TurnStop}
@@ -40,7 +40,7 @@ pub record Advancing {nodes state before : List ℕ} {n h : ℕ} (w : Work nodes
   pub stack : Stack w.ss nodes (bindings w.ss nodes state n) w.top (left_at after) (right_at after) k
   pub means : unify_rows (bindings w.ss nodes state n) (rows_of w.ss nodes (left_at before) h) (rows_of w.ss nodes (right_at before) h) ≡ unify_rows (bindings w.ss nodes state n) (rows_of w.ss nodes (left_at after) k) (rows_of w.ss nodes (right_at after) k)
   pub memo : Memo w.ss nodes (bindings w.ss nodes state n) after
-  pub closes : Closes w.ss nodes (bindings w.ss nodes state n) (left_at after) (right_at after) k no_term no_term
+  pub closes : WholesEqual w.ss nodes (bindings w.ss nodes state n) (left_at after) (right_at after) k no_term no_term
 
 -- what is left to be done, whatever the symbols
 abbrev pub left_over : List ℕ → List ℕ → List ℕ → ℕ → ℕ → ℕ
@@ -68,7 +68,7 @@ module _ {nodes state before after : List ℕ} {n h k : ℕ} {g : Work nodes sta
     unfolding advance-turn
     came = c (advance-turn l)
 
-    gone : (j : ℕ) → t ≡ Ok j → SameMarks after later × Goes (over g) (rows_of g.ss nodes (left_at after) k) (rows_of g.ss nodes (right_at after) k) (2 * rows_size (bindings g.ss nodes state n) (rows_of g.ss nodes (left_at after) k) + k) later j
+    gone : (j : ℕ) → t ≡ Ok j → SameMarks after later × RowsLeft (over g) (rows_of g.ss nodes (left_at after) k) (rows_of g.ss nodes (right_at after) k) (2 * rows_size (bindings g.ss nodes state n) (rows_of g.ss nodes (left_at after) k) + k) later j
     gone j e = subst (λ (x : Turn). TurnGives advance-work later x) e came
 
     pub advance-next : (j : ℕ) → t ≡ Ok j → Advancing g later j
@@ -81,7 +81,7 @@ module _ {nodes state before after : List ℕ} {n h k : ℕ} {g : Work nodes sta
         let z : rows_size (bindings [] nodes state n) (rows_of [] nodes (left_at after) k) ≡ rows_size (bindings g.ss nodes state n) (rows_of g.ss nodes (left_at after) k) = size-bare g.ss nodes state n (left_at after) k in
         omega arith
 
-    binds-of : (i x : ℕ) (p : At) → Binds (over advance-work) (rows_of advance-work.ss nodes (left_at after) k) (rows_of advance-work.ss nodes (right_at after) k) later i x p → Binds (over g) (rows_of g.ss nodes (left_at before) h) (rows_of g.ss nodes (right_at before) h) later i x p
+    binds-of : (i x : ℕ) (p : At) → BindingDue (over advance-work) (rows_of advance-work.ss nodes (left_at after) k) (rows_of advance-work.ss nodes (right_at after) k) later i x p → BindingDue (over g) (rows_of g.ss nodes (left_at before) h) (rows_of g.ss nodes (right_at before) h) later i x p
     binds-of i x p s = record { stack = s.stack; cell = s.cell; unbound = s.unbound; below = s.below; node = s.node; copy = s.copy; copy_below = s.copy_below; down = s.down; stands = λ z. a.means ∙ s.stands z; free = λ z. a.means ∙ s.free z; memo = s.memo; closes = s.closes }
 
     pub advance-stop : (y : TurnStop) → t ≡ Err y → Advanced g later (Err y)
@@ -101,14 +101,14 @@ module _ {nodes state before after : List ℕ} {n h k : ℕ} {g : Work nodes sta
 pub record Solving {nodes before scratch : List ℕ} {n : ℕ} (g : Solvable nodes before scratch n) (after later : List ℕ) (m h : ℕ) : Type 0 where
   pub grows : n ≤ m
   pub store : Store g.work.ss nodes after m
-  pub within : Within g.work.top after m
-  pub keeps : Keeps n before after
+  pub within : WithinCopies g.work.top after m
+  pub keeps : BindingsKept n before after
   pub clean : Clean later
   pub long : length later ≡ length scratch
   pub stack : Stack g.work.ss nodes (bindings g.work.ss nodes after m) g.work.top (left_at later) (right_at later) h
   pub means : unify_rows (bindings g.work.ss nodes before n) (rows_of g.work.ss nodes (left_at scratch) 1) (rows_of g.work.ss nodes (right_at scratch) 1) ≡ unify_rows (bindings g.work.ss nodes after m) (rows_of g.work.ss nodes (left_at later) h) (rows_of g.work.ss nodes (right_at later) h)
   pub memo : Memo g.work.ss nodes (bindings g.work.ss nodes after m) later
-  pub closes : Closes g.work.ss nodes (bindings g.work.ss nodes after m) (left_at later) (right_at later) h no_term no_term
+  pub closes : WholesEqual g.work.ss nodes (bindings g.work.ss nodes after m) (left_at later) (right_at later) h no_term no_term
   pub order : Ordered g.work.ss nodes after later
 
 pub solve-begin : {nodes state scratch : List ℕ} {n : ℕ} (g : Solvable nodes state scratch n) → Solving g state scratch n 1
@@ -155,7 +155,7 @@ module _ {nodes before after scratch later : List ℕ} {n m h : ℕ} (g : Solvab
         record { grows = s.grows; store = s.store; within = s.within; keeps = s.keeps; clean = clean-next; long = long-next; answer = s.means ∙ x.1 }
 
     module _ {k x : ℕ} {p : At} {f : TurnStop} (e : t ≡ Err f) (d : f ≡ Bind k x p) where
-      binds : Binds (over solve-work) (rows_of ss nodes (left_at later) h) (rows_of ss nodes (right_at later) h) next k x p
+      binds : BindingDue (over solve-work) (rows_of ss nodes (left_at later) h) (rows_of ss nodes (right_at later) h) next k x p
       binds = (subst (Advanced solve-work next) (e ∙ ap Err d) gave).1
 
       abbrev guarding : Guardable nodes after next x p
@@ -223,6 +223,6 @@ module _ {nodes before after scratch later : List ℕ} {n m h : ℕ} (g : Solvab
               stack = subst⁻¹ (λ (y : List Binding). Stack ss nodes y g.work.top (left_at end) (right_at end) k) now (stack-agrees ss nodes (new ∷ b) g.work.top (left_at next) (right_at next) (left_at end) (right_at end) k l-same r-same (stack-bound ss nodes b new g.work.top (left_at next) (right_at next) k binds.stack));
               means = s.means ∙ (binds.free (free f) ∙ (ap₂ (unify_rows (new ∷ b)) (sym (rows_agree ss nodes (left_at next) (left_at end) k l-same)) (sym (rows_agree ss nodes (right_at next) (right_at end) k r-same)) ∙ ap (λ (y : List Binding). unify_rows y (rows_of ss nodes (left_at end) k) (rows_of ss nodes (right_at end) k)) (sym now)));
               memo = subst⁻¹ (λ (y : List Binding). Memo ss nodes y end) now (memo-bound ss nodes b end (checked.spared.memo b binds.memo) new);
-              closes = subst⁻¹ (λ (y : List Binding). Closes ss nodes y (left_at end) (right_at end) k no_term no_term) now (closes-agree ss nodes (new ∷ b) (left_at next) (right_at next) (left_at end) (right_at end) k no_term no_term l-same r-same (binds.closes (free f)));
+              closes = subst⁻¹ (λ (y : List Binding). WholesEqual ss nodes y (left_at end) (right_at end) k no_term no_term) now (closes-agree ss nodes (new ∷ b) (left_at next) (right_at next) (left_at end) (right_at end) k no_term no_term l-same r-same (binds.closes (free f)));
               order = checked.order f;
             }))

@@ -20,7 +20,7 @@ use Rattle.bindings.specs.Scratch.{stack_side, stack_side_words, left_at, right_
 use Rattle.run_layout.specs.declared.terms.At.{At}
 use Rattle.bindings.specs.declared.stack.Side.{Side}
 use Rattle.unify.specs.Rows.{nodes_of, rows_size}
-use Rattle.unify.specs.Stacks.{inner_row, end_of, whole_of, row_of, rows_of, Half, Via, Stack}
+use Rattle.unify.specs.Stacks.{inner_row, end_of, whole_of, row_of, rows_of, StackSide, OpenedByCell, Stack}
 use Rattle.unify.proofs.Rowwise.{size-app}
 
 -- ---- words
@@ -131,7 +131,7 @@ rows-top ss nodes s h = refl
 
 -- ---- one side
 
-pub half-agrees : (ss : List Symbol) (nodes : List ℕ) (b : List Binding) (top : ℕ) (s t : ℕ → Side) (h : ℕ) → ((k : ℕ) → k < h → t k ≡ s k) → Half ss nodes b top s h → Half ss nodes b top t h
+pub half-agrees : (ss : List Symbol) (nodes : List ℕ) (b : List Binding) (top : ℕ) (s t : ℕ → Side) (h : ℕ) → ((k : ℕ) → k < h → t k ≡ s k) → StackSide ss nodes b top s h → StackSide ss nodes b top t h
 half-agrees ss nodes b top s t h a f =
     record {
       node = λ k l. subst⁻¹ (λ (x : Side). Node ss nodes x.root) (a k l) (f.node k l);
@@ -143,7 +143,7 @@ half-agrees ss nodes b top s t h a f =
           (subst⁻¹ (λ (x : Side). nodes_of (resolve (newer ++ b) (whole_of ss nodes x)) < nodes_of (resolve (newer ++ b) (whole_of ss nodes (s k)))) (a (k + 1) l) (f.down k o l newer));
     }
 
-pub half-less : (ss : List Symbol) (nodes : List ℕ) (b : List Binding) (top : ℕ) (s : ℕ → Side) (h j : ℕ) → j ≤ h → Half ss nodes b top s h → Half ss nodes b top s j
+pub half-less : (ss : List Symbol) (nodes : List ℕ) (b : List Binding) (top : ℕ) (s : ℕ → Side) (h j : ℕ) → j ≤ h → StackSide ss nodes b top s h → StackSide ss nodes b top s j
 half-less ss nodes b top s h j l f =
     record {
       node = λ k q. f.node k (omega arith);
@@ -155,7 +155,7 @@ half-less ss nodes b top s h j l f =
     }
 
 -- one binding more
-pub half-bound : (ss : List Symbol) (nodes : List ℕ) (b : List Binding) (e : Binding) (top : ℕ) (s : ℕ → Side) (h : ℕ) → Half ss nodes b top s h → Half ss nodes (e ∷ b) top s h
+pub half-bound : (ss : List Symbol) (nodes : List ℕ) (b : List Binding) (e : Binding) (top : ℕ) (s : ℕ → Side) (h : ℕ) → StackSide ss nodes b top s h → StackSide ss nodes (e ∷ b) top s h
 half-bound ss nodes b e top s h f =
     record {
       node = f.node;
@@ -176,7 +176,7 @@ module _ {s t : ℕ → Side} {h : ℕ} (x : Side) (a : (k : ℕ) → k < h → 
       by false q = let z : k ≡ h → ⊥ = eqb-false k h q in let m : k < h = omega (arith, z) in subst⁻¹ P (a k m) (low m)
 
   half-topped : {ss : List Symbol} {nodes : List ℕ} {b : List Binding} {top : ℕ} → Node ss nodes x.root → x.copy < copies → x.copy ≤ top → Row ss nodes x.at (end_of nodes x) → (1 ≤ h → (newer : List Binding) → rows_size (newer ++ b) (row_of ss nodes x) < nodes_of (resolve (newer ++ b) (whole_of ss nodes x)))
-      → (2 ≤ h → (newer : List Binding) → nodes_of (resolve (newer ++ b) (whole_of ss nodes x)) < nodes_of (resolve (newer ++ b) (whole_of ss nodes (s (h - 1))))) → Half ss nodes b top s h → Half ss nodes b top t (suc h)
+      → (2 ≤ h → (newer : List Binding) → nodes_of (resolve (newer ++ b) (whole_of ss nodes x)) < nodes_of (resolve (newer ++ b) (whole_of ss nodes (s (h - 1))))) → StackSide ss nodes b top s h → StackSide ss nodes b top t (suc h)
   half-topped {ss} {nodes} {b} {top} node copy below row small inside f =
       record {
         node = λ k l. on-top (λ (y : Side). Node ss nodes y.root) l (f.node k) (λ z. node);
@@ -191,7 +191,7 @@ module _ {s t : ℕ → Side} {h : ℕ} (x : Side) (a : (k : ℕ) → k < h → 
 
 -- the top moved on within its row
 pub half-moved : (ss : List Symbol) (nodes : List ℕ) (b : List Binding) (top : ℕ) (s t : ℕ → Side) (h j : ℕ) → ((k : ℕ) → k < h → t k ≡ s k) → t h ≡ record { root = (s h).root; at = j; copy = (s h).copy } → Row ss nodes j (end_of nodes (s h))
-    → ((x : List Binding) → rows_size x (terms_at ss nodes j (end_of nodes (s h)) (s h).copy) ≤ rows_size x (row_of ss nodes (s h))) → Half ss nodes b top s (suc h) → Half ss nodes b top t (suc h)
+    → ((x : List Binding) → rows_size x (terms_at ss nodes j (end_of nodes (s h)) (s h).copy) ≤ rows_size x (row_of ss nodes (s h))) → StackSide ss nodes b top s (suc h) → StackSide ss nodes b top t (suc h)
 half-moved ss nodes b top s t h j a e r less f =
     half-topped (record { root = (s h).root; at = j; copy = (s h).copy }) a e (f.node h (omega arith)) (f.copy h (omega arith)) (f.below h (omega arith)) r
     (λ o newer. (let x : rows_size (newer ++ b) (row_of ss nodes (s h)) < nodes_of (resolve (newer ++ b) (whole_of ss nodes (s h))) = f.small h o (omega arith) newer in
@@ -202,7 +202,7 @@ half-moved ss nodes b top s t h j a e r less f =
 
 -- a new top: the arguments of a name that stands strictly inside the top before
 pub half-pushed : (ss : List Symbol) (nodes : List ℕ) (b : List Binding) (top : ℕ) (s t : ℕ → Side) (h : ℕ) (p : At) → ((k : ℕ) → k < h → t k ≡ s k) → t h ≡ inner_row p → Node ss nodes p.node → p.copy < copies → p.copy ≤ top → first_name ≤ get_or nodes p.node 0
-    → (2 ≤ h → (newer : List Binding) → nodes_of (resolve (newer ++ b) (term_at ss nodes p.node p.copy)) < nodes_of (resolve (newer ++ b) (whole_of ss nodes (s (h - 1))))) → Half ss nodes b top s h → Half ss nodes b top t (suc h)
+    → (2 ≤ h → (newer : List Binding) → nodes_of (resolve (newer ++ b) (term_at ss nodes p.node p.copy)) < nodes_of (resolve (newer ++ b) (whole_of ss nodes (s (h - 1))))) → StackSide ss nodes b top s h → StackSide ss nodes b top t (suc h)
 half-pushed ss nodes b top s t h p a e node copy below high inside f =
     half-topped (inner_row p) a e node copy below (compound-row ss nodes p.node node high)
     (λ o newer. (let x : nodes_of (resolve (newer ++ b) (term_at ss nodes p.node p.copy)) ≡ suc (rows_size (newer ++ b) (terms_at ss nodes (p.node + loaded_node) (p.node + get_or nodes (p.node + 1) 0) p.copy)) = ap (λ (y : RTerm). nodes_of (resolve (newer ++ b) y)) (compound-at ss nodes p.node node p.copy high) ∙ size-app (newer ++ b) (name_of_symbol ss (get_or nodes p.node 0 - first_name)) (terms_at ss nodes (p.node + loaded_node) (p.node + get_or nodes (p.node + 1) 0) p.copy) in
@@ -211,7 +211,7 @@ half-pushed ss nodes b top s t h p a e node copy below high inside f =
 
 -- ---- the height
 
-module _ (ss : List Symbol) (nodes : List ℕ) (b : List Binding) (top : ℕ) (s : ℕ → Side) (h : ℕ) (f : Half ss nodes b top s h) where
+module _ (ss : List Symbol) (nodes : List ℕ) (b : List Binding) (top : ℕ) (s : ℕ → Side) (h : ℕ) (f : StackSide ss nodes b top s h) where
   smaller : (m k l : ℕ) → l ≡ k + 1 + m → 1 ≤ k → l < h → nodes_of (resolve b (whole_of ss nodes (s l))) < nodes_of (resolve b (whole_of ss nodes (s k)))
   smaller zero k l e o q = subst⁻¹ (λ (i : ℕ). nodes_of (resolve b (whole_of ss nodes (s i))) < nodes_of (resolve b (whole_of ss nodes (s k)))) (let i : l ≡ k + 1 = omega arith in i) (f.down k o (omega arith) [])
   smaller (suc m) k l e o q =
@@ -250,7 +250,7 @@ height ss nodes b top l r h st = let k : h - 1 ≤ 2 * cells = pigeonhole (2 * c
 
 -- ---- both sides
 
-via-bound : (b : List Binding) (e : Binding) (v : ℕ) (left right : RTerm) → Via b v left right → Via (e ∷ b) v left right
+via-bound : (b : List Binding) (e : Binding) (v : ℕ) (left right : RTerm) → OpenedByCell b v left right → OpenedByCell (e ∷ b) v left right
 unfolding resolve
 via-bound b e v left right w =
     record { small = w.small; left_is = λ l. ap (replace e.variable e.term) (w.left_is l); right_is = λ l. ap (replace e.variable e.term) (w.right_is l) }
@@ -272,7 +272,7 @@ stack-agrees ss nodes b top l r l' r' h a c st =
       right = half-agrees ss nodes b top r r' h c st.right;
       same = λ k q x y. ap (λ (s : Side). count (terms_at ss nodes s.at (end_of nodes s) x)) (a k q) ∙ (st.same k q x y ∙ sym (ap (λ (s : Side). count (terms_at ss nodes s.at (end_of nodes s) y)) (c k q)));
       via = st.via;
-      vias = λ k o q. subst⁻¹ (λ (s : Side). Via b (st.via k) (whole_of ss nodes s) (whole_of ss nodes (r' k))) (a k q) (subst⁻¹ (λ (s : Side). Via b (st.via k) (whole_of ss nodes (l k)) (whole_of ss nodes s)) (c k q) (st.vias k o q));
+      vias = λ k o q. subst⁻¹ (λ (s : Side). OpenedByCell b (st.via k) (whole_of ss nodes s) (whole_of ss nodes (r' k))) (a k q) (subst⁻¹ (λ (s : Side). OpenedByCell b (st.via k) (whole_of ss nodes (l k)) (whole_of ss nodes s)) (c k q) (st.vias k o q));
     }
 
 pub stack-less : (ss : List Symbol) (nodes : List ℕ) (b : List Binding) (top : ℕ) (l r : ℕ → Side) (h j : ℕ) → j ≤ h → Stack ss nodes b top l r h → Stack ss nodes b top l r j

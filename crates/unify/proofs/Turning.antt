@@ -15,7 +15,7 @@ use Rattle.run_layout.specs.Nodes.{Node, Row, term_at, terms_at, followed, count
 use Rattle.run_layout.specs.State.{cell_of, variable_of, word_of, value_of, bindings}
 use Rattle.run_layout.proofs.Nodes.{node-inside, node_end, variable-at, row_first, row-rest, row_cons}
 use Rattle.run_layout.proofs.State.{variable-cell, cell-small}
-use Rattle.bindings.specs.Cells.{Derefs}
+use Rattle.bindings.specs.Cells.{Dereferences}
 use Rattle.bindings.specs.Memos.{Remembers}
 use Rattle.bindings.specs.Scratch.{left_at, right_at, pair_words, SameMarks}
 use Rattle.run_layout.specs.declared.terms.At.{At}
@@ -25,8 +25,8 @@ use Rattle.bindings.specs.declared.shortcuts.Ends.{Ends}
 use Rattle.bindings.proofs.Remembering.{value-word, memo-kept, memo-eased, memo-remembers}
 use Rattle.unify.specs.Rows.{unify_rows, nodes_of, rows_size}
 use Rattle.unify.specs.Walks.{RowsBeside, Walkable, StopsAt, Walks}
-use Rattle.unify.specs.Stacks.{end_of, whole_of, row_of, rows_of, Half, Via, Stack, SameRows, no_term, Closes}
-use Rattle.unify.specs.Turns.{Work, Base, bound, over, Inside, Turns, TurnGives, Crossed, PairTurned, Crossable, Crosses, Meetable, Passable, Turnable}
+use Rattle.unify.specs.Stacks.{end_of, whole_of, row_of, rows_of, StackSide, OpenedByCell, Stack, SameRows, no_term, WholesEqual}
+use Rattle.unify.specs.Turns.{Work, UnifiedOver, bound, over, Inside, Turns, TurnGives, Crossed, PairTurned, Crossable, Crosses, Meetable, Passable, Turnable}
 use Rattle.unify.specs.Walks.{RowsWalked}
 use Rattle.unify.specs.declared.walk.WalkStop.{WalkStop}
 use Rattle.unify.specs.declared.walk.WalkStop.TheVariants.{Clash as Differ, Met}
@@ -42,7 +42,7 @@ marks-trans : (a b c : List ℕ) → SameMarks a b → SameMarks b c → SameMar
 marks-trans a b c x y = record { long = y.long ∙ x.long; words = λ j l. y.words j l ∙ x.words j l }
 
 -- rows that unify alike come to the same
-pub turns-alike : (o : Base) (ls rs ls' rs' : RTerms) (size size' : ℕ) (after : List ℕ) (t : Turn) → unify_rows (bound o) ls rs ≡ unify_rows (bound o) ls' rs' → size' ≤ size → Turns o ls' rs' size' after t → Turns o ls rs size after t
+pub turns-alike : (o : UnifiedOver) (ls rs ls' rs' : RTerms) (size size' : ℕ) (after : List ℕ) (t : Turn) → unify_rows (bound o) ls rs ≡ unify_rows (bound o) ls' rs' → size' ≤ size → Turns o ls' rs' size' after t → Turns o ls rs size after t
 turns-alike o ls rs ls' rs' size size' after (Ok k) e l g = record { stack = g.stack; means = e ∙ g.means; less = (let z : 2 * rows_size (bound o) (rows_of o.ss o.nodes (left_at after) k) + k < size' = g.less in omega arith); memo = g.memo; closes = g.closes }
 turns-alike o ls rs ls' rs' size size' after (Err Clash) e l g = e ∙ g
 turns-alike o ls rs ls' rs' size size' after (Err (Bind k x a)) e l g =
@@ -66,14 +66,14 @@ module _ {nodes state scratch : List ℕ} {h : ℕ} {p q : At} (g : Crossable no
         copy = g.copy_right;
       }
 
-  module _ {p1 q1 : At} (to-left : Derefs g.work.ss nodes state g.n p.node p.copy p1.node p1.copy) (to-right : Derefs g.work.ss nodes state g.n q.node q.copy q1.node q1.copy) where
+  module _ {p1 q1 : At} (to-left : Dereferences g.work.ss nodes state g.n p.node p.copy p1.node p1.copy) (to-right : Dereferences g.work.ss nodes state g.n q.node q.copy q1.node q1.copy) where
     still : (top : Side) (a a1 : At) → resolve (bound (over g.work)) (term_at g.work.ss nodes a1.node a1.copy) ≡ resolve (bound (over g.work)) (term_at g.work.ss nodes a.node a.copy) → Inside (over g.work) h top a → Inside (over g.work) h top a1
     still top a a1 e i = λ l newer.
         let b : List Binding = bound (over g.work) in
         subst⁻¹ (λ (k : ℕ). k < nodes_of (resolve (newer ++ b) (whole_of g.work.ss nodes top)))
         (ap nodes_of (resolve-append newer b (term_at g.work.ss nodes a1.node a1.copy) ∙ (ap (resolve newer) e ∙ sym (resolve-append newer b (term_at g.work.ss nodes a.node a.copy))))) (i l newer)
 
-    crossing : (v : ℕ) → Via (bindings g.work.ss nodes state g.n) v (term_at g.work.ss nodes p1.node p1.copy) (term_at g.work.ss nodes q1.node q1.copy) → Crossed nodes scratch h p1 q1
+    crossing : (v : ℕ) → OpenedByCell (bindings g.work.ss nodes state g.n) v (term_at g.work.ss nodes p1.node p1.copy) (term_at g.work.ss nodes q1.node q1.copy) → Crossed nodes scratch h p1 q1
     crossing v w =
         record {
           state = state;
@@ -95,7 +95,7 @@ module _ {nodes state scratch : List ℕ} {h : ℕ} {p q : At} (g : Crossable no
     pub cross-settle : Crossed nodes scratch h p1 q1
     cross-settle = crossing (via-of g.variable).0 (via-of g.variable).1
       where
-        via-of : (get_or nodes p.node 0 < first_name) ⊎ (get_or nodes q.node 0 < first_name) → (v : ℕ) × Via (bindings g.work.ss nodes state g.n) v (term_at g.work.ss nodes p1.node p1.copy) (term_at g.work.ss nodes q1.node q1.copy)
+        via-of : (get_or nodes p.node 0 < first_name) ⊎ (get_or nodes q.node 0 < first_name) → (v : ℕ) × OpenedByCell (bindings g.work.ss nodes state g.n) v (term_at g.work.ss nodes p1.node p1.copy) (term_at g.work.ss nodes q1.node q1.copy)
         via-of (inl l) =
             let s : cell_of p.copy (get_or nodes p.node 0) < cells = cell-small p.copy (get_or nodes p.node 0) g.copy l in
             (cell_of p.copy (get_or nodes p.node 0), record { small = omega arith; left_is = λ k. cell-of p.node p.copy g.left l ∙ sym to-left.leads.means; right_is = λ k. absurd (let z : cells ≤ cell_of p.copy (get_or nodes p.node 0) = k in omega arith) })
@@ -183,7 +183,7 @@ module _ {nodes state scratch : List ℕ} {h : ℕ} {p q : At} (g : Crossable no
 
 module _ {nodes state scratch : List ℕ} {n h p q : ℕ} (w : Work nodes state scratch n h) (some : 1 ≤ h)
     (m : StopsAt w.ss nodes (left_at scratch (h - 1)).at (end_of nodes (left_at scratch (h - 1))) (right_at scratch (h - 1)).at (end_of nodes (right_at scratch (h - 1))) p q)
-    (cl : Closes w.ss nodes (bindings w.ss nodes state n) (left_at scratch) (right_at scratch) h no_term no_term) where
+    (cl : WholesEqual w.ss nodes (bindings w.ss nodes state n) (left_at scratch) (right_at scratch) h no_term no_term) where
   abbrev pub b : List Binding
   b = bindings w.ss nodes state n
 
@@ -254,17 +254,17 @@ module _ {nodes state scratch : List ℕ} {n h p q : ℕ} (w : Work nodes state 
   back : suc (h - 1) ≡ h
   back = omega arith
 
-  moved-left : Half w.ss nodes b w.top (left_at mid) h
-  moved-left = subst (Half w.ss nodes b w.top (left_at mid)) back
+  moved-left : StackSide w.ss nodes b w.top (left_at mid) h
+  moved-left = subst (StackSide w.ss nodes b w.top (left_at mid)) back
       (half-moved w.ss nodes b w.top (left_at scratch) (left_at mid) (h - 1) pa left_below left-top (row-rest w.ss nodes p (end_of nodes l0) m.beside.left m.some)
       (λ x. (let y : rows_size x (terms_at w.ss nodes p (end_of nodes l0) l0.copy) ≤ rows_size x (row_of w.ss nodes l0) = m.less x l0.copy in let z : rows_size x (terms_at w.ss nodes p (end_of nodes l0) l0.copy) ≡ nodes_of (resolve x (term_at w.ss nodes p l0.copy)) + rows_size x (terms_at w.ss nodes pa (end_of nodes l0) l0.copy) = left-size x l0.copy in omega arith))
-      (subst⁻¹ (Half w.ss nodes b w.top (left_at scratch)) back w.stack.left))
+      (subst⁻¹ (StackSide w.ss nodes b w.top (left_at scratch)) back w.stack.left))
 
-  moved-right : Half w.ss nodes b w.top (right_at mid) h
-  moved-right = subst (Half w.ss nodes b w.top (right_at mid)) back
+  moved-right : StackSide w.ss nodes b w.top (right_at mid) h
+  moved-right = subst (StackSide w.ss nodes b w.top (right_at mid)) back
       (half-moved w.ss nodes b w.top (right_at scratch) (right_at mid) (h - 1) qa right-below right-top (row-rest w.ss nodes q (end_of nodes r0) m.beside.right right-more)
       (λ x. (let y : rows_size x (terms_at w.ss nodes q (end_of nodes r0) r0.copy) ≤ rows_size x (row_of w.ss nodes r0) = m.less_right x r0.copy in let z : rows_size x (terms_at w.ss nodes q (end_of nodes r0) r0.copy) ≡ nodes_of (resolve x (term_at w.ss nodes q r0.copy)) + rows_size x (terms_at w.ss nodes qa (end_of nodes r0) r0.copy) = right-size x r0.copy in omega arith))
-      (subst⁻¹ (Half w.ss nodes b w.top (right_at scratch)) back w.stack.right))
+      (subst⁻¹ (StackSide w.ss nodes b w.top (right_at scratch)) back w.stack.right))
 
   rest-same : (i j : ℕ) → count (terms_at w.ss nodes pa (end_of nodes l0) i) ≡ count (terms_at w.ss nodes qa (end_of nodes r0) j)
   rest-same i j =
@@ -292,16 +292,16 @@ module _ {nodes state scratch : List ℕ} {n h p q : ℕ} (w : Work nodes state 
           ap (λ (s : Side). count (terms_at w.ss nodes s.at (end_of nodes s) i)) (left_below k u)
           ∙ (w.stack.same k o i j ∙ sym (ap (λ (s : Side). count (terms_at w.ss nodes s.at (end_of nodes s) j)) (right-below k u)))
 
-      via-at : (k : ℕ) → 1 ≤ k → k < h → (z : Bool) → eqb k (h - 1) ≡ z → Via b (w.stack.via k) (whole_of w.ss nodes (left_at mid k)) (whole_of w.ss nodes (right_at mid k))
+      via-at : (k : ℕ) → 1 ≤ k → k < h → (z : Bool) → eqb k (h - 1) ≡ z → OpenedByCell b (w.stack.via k) (whole_of w.ss nodes (left_at mid k)) (whole_of w.ss nodes (right_at mid k))
       via-at k o i true z =
           let e : k ≡ h - 1 = eqb-true k (h - 1) z in
-          subst⁻¹ (λ (j : ℕ). Via b (w.stack.via j) (whole_of w.ss nodes (left_at mid j)) (whole_of w.ss nodes (right_at mid j))) e
-          (subst⁻¹ (λ (s : Side). Via b (w.stack.via (h - 1)) (whole_of w.ss nodes s) (whole_of w.ss nodes (right_at mid (h - 1)))) left-top
-          (subst⁻¹ (λ (s : Side). Via b (w.stack.via (h - 1)) (whole_of w.ss nodes l0) (whole_of w.ss nodes s)) right-top (w.stack.vias (h - 1) (omega arith) under)))
+          subst⁻¹ (λ (j : ℕ). OpenedByCell b (w.stack.via j) (whole_of w.ss nodes (left_at mid j)) (whole_of w.ss nodes (right_at mid j))) e
+          (subst⁻¹ (λ (s : Side). OpenedByCell b (w.stack.via (h - 1)) (whole_of w.ss nodes s) (whole_of w.ss nodes (right_at mid (h - 1)))) left-top
+          (subst⁻¹ (λ (s : Side). OpenedByCell b (w.stack.via (h - 1)) (whole_of w.ss nodes l0) (whole_of w.ss nodes s)) right-top (w.stack.vias (h - 1) (omega arith) under)))
       via-at k o i false z =
           let u : k < h - 1 = (let v : k ≡ h - 1 → ⊥ = eqb-false k (h - 1) z in omega (arith, v)) in
-          subst⁻¹ (λ (s : Side). Via b (w.stack.via k) (whole_of w.ss nodes s) (whole_of w.ss nodes (right_at mid k))) (left_below k u)
-          (subst⁻¹ (λ (s : Side). Via b (w.stack.via k) (whole_of w.ss nodes (left_at scratch k)) (whole_of w.ss nodes s)) (right-below k u) (w.stack.vias k o i))
+          subst⁻¹ (λ (s : Side). OpenedByCell b (w.stack.via k) (whole_of w.ss nodes s) (whole_of w.ss nodes (right_at mid k))) (left_below k u)
+          (subst⁻¹ (λ (s : Side). OpenedByCell b (w.stack.via k) (whole_of w.ss nodes (left_at scratch k)) (whole_of w.ss nodes s)) (right-below k u) (w.stack.vias k o i))
 
   -- the crossing's two terms and the rows behind them, equal: so are the rows
   behind : (newer : List Binding) → resolve (newer ++ b) (term_at w.ss nodes p l0.copy) ≡ resolve (newer ++ b) (term_at w.ss nodes q r0.copy) → SameRows w.ss nodes (newer ++ b) (left_at mid (h - 1)) (right_at mid (h - 1)) → SameRows w.ss nodes (newer ++ b) l0 r0
@@ -313,11 +313,11 @@ module _ {nodes state scratch : List ℕ} {n h p q : ℕ} (w : Work nodes state 
       (term_at w.ss nodes p l0.copy) (term_at w.ss nodes q r0.copy) e
       ∙ sym (ap (λ (ts : RTerms). resolve (newer ++ b) (app [] ts)) (right-cons r0.copy))))
 
-  moved-closes : Closes w.ss nodes b (left_at mid) (right_at mid) h (term_at w.ss nodes p l0.copy) (term_at w.ss nodes q r0.copy)
+  moved-closes : WholesEqual w.ss nodes b (left_at mid) (right_at mid) h (term_at w.ss nodes p l0.copy) (term_at w.ss nodes q r0.copy)
   moved-closes =
-      subst (λ (i : ℕ). Closes w.ss nodes b (left_at mid) (right_at mid) i (term_at w.ss nodes p l0.copy) (term_at w.ss nodes q r0.copy)) back
+      subst (λ (i : ℕ). WholesEqual w.ss nodes b (left_at mid) (right_at mid) i (term_at w.ss nodes p l0.copy) (term_at w.ss nodes q r0.copy)) back
       (closes-moved w.ss nodes b (left_at scratch) (right_at scratch) (left_at mid) (right_at mid) (h - 1) pa qa (term_at w.ss nodes p l0.copy) (term_at w.ss nodes q r0.copy) left_below right-below left-top right-top behind
-      (subst⁻¹ (λ (i : ℕ). Closes w.ss nodes b (left_at scratch) (right_at scratch) i no_term no_term) back cl))
+      (subst⁻¹ (λ (i : ℕ). WholesEqual w.ss nodes b (left_at scratch) (right_at scratch) i no_term no_term) back cl))
 
   pub meet-crossable : Crossable nodes state mid h p0 q0
   meet-crossable =
@@ -597,6 +597,6 @@ module _ {scratch : List ℕ} {h : ℕ} {l r : Side} (g : Passable scratch h l r
             let q : 1 ≤ h = g.some in omega arith);
         memo = memo-remembers g.work.ss g.nodes bs scratch g.work.memo after (word_of l.root l.copy) (word_of r.root r.copy) k words-equal;
         closes = closes-agree g.work.ss g.nodes bs (left_at scratch) (right_at scratch) (left_at after) (right_at after) (h - 1) no_term no_term left-under right-under
-            (closes-less g.work.ss g.nodes bs (left_at scratch) (right_at scratch) (h - 1) (rows-done-is bs) (subst⁻¹ (λ (i : ℕ). Closes g.work.ss g.nodes bs (left_at scratch) (right_at scratch) i no_term no_term) back-up g.closes));
+            (closes-less g.work.ss g.nodes bs (left_at scratch) (right_at scratch) (h - 1) (rows-done-is bs) (subst⁻¹ (λ (i : ℕ). WholesEqual g.work.ss g.nodes bs (left_at scratch) (right_at scratch) i no_term no_term) back-up g.closes));
       },
     )

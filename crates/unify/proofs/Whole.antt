@@ -22,7 +22,7 @@ use Rattle.bindings.specs.Orders.{ordered, bounds_made}
 use Rattle.bindings.proofs.Lists.{ordered-none}
 use Rattle.unify.specs.Checks.{Begun}
 use Rattle.unify.specs.Rows.{unify_rows}
-use Rattle.unify.specs.Stacks.{only_row, end_of, whole_of, row_of, rows_of, Half, Stack, no_term, Closes}
+use Rattle.unify.specs.Stacks.{only_row, end_of, whole_of, row_of, rows_of, StackSide, Stack, no_term, WholesEqual}
 use Rattle.unify.specs.Turns.{Solvable, Solved, Unifiable, UnifyGives}
 use Rattle.unify.specs.declared.solve.UnifyAnswer.{UnifyAnswer}
 use Rattle.unify.proofs.Rules.{rows-begin}
@@ -31,7 +31,7 @@ use Rattle.unify.proofs.Closing.{equal-first, closes-first}
 use Rattle.unify.proofs.Stacked.{pair-long, pair-others, pair-marks, pair_left, pair-right, rows-top}
 
 -- one side of a stack of one pair
-one-half : (ss : List Symbol) (nodes : List ℕ) (b : List Binding) (top : ℕ) (p : At) (s : ℕ → Side) → s 0 ≡ only_row p → Node ss nodes p.node → p.copy < copies → p.copy ≤ top → Half ss nodes b top s 1
+one-half : (ss : List Symbol) (nodes : List ℕ) (b : List Binding) (top : ℕ) (p : At) (s : ℕ → Side) → s 0 ≡ only_row p → Node ss nodes p.node → p.copy < copies → p.copy ≤ top → StackSide ss nodes b top s 1
 one-half ss nodes b top p s e n l o =
     record {
       node = λ k q. subst⁻¹ (λ (x : Side). Node ss nodes x.root) (at k q) n;
@@ -121,7 +121,7 @@ module _ {nodes state scratch : List ℕ} {p q : At} {n : ℕ} (g : Unifiable no
     no_bounds = pair-others blank 0 (only_row p) (only_row q) unify-room.0 bounds_word (inl (omega arith)) ∙ begun.no_bounds
 
     -- the first pair's rows are its two terms
-    first-closes : Closes g.ss nodes (bindings g.ss nodes state n) (left_at mid) (right_at mid) 1 no_term no_term
+    first-closes : WholesEqual g.ss nodes (bindings g.ss nodes state n) (left_at mid) (right_at mid) 1 no_term no_term
     first-closes =
         closes-first g.ss nodes (bindings g.ss nodes state n) (left_at mid) (right_at mid)
         (λ newer e.

@@ -36,7 +36,7 @@ rows_of ss nodes s (suc h) = followed (row_of ss nodes (s h)) (rows_of ss nodes 
 
 -- One side of the stack, under bindings b and whatever newer ones: what is left of a row is smaller than its whole, and from the second pair on
 -- each whole is smaller than the one below it.
-pub record Half (ss : List Symbol) (nodes : List ℕ) (b : List Binding) (top : ℕ) (s : ℕ → Side) (h : ℕ) : Type 0 where
+pub record StackSide (ss : List Symbol) (nodes : List ℕ) (b : List Binding) (top : ℕ) (s : ℕ → Side) (h : ℕ) : Type 0 where
   pub node : (k : ℕ) → k < h → Node ss nodes (s k).root
   pub copy : (k : ℕ) → k < h → (s k).copy < copies
   pub below : (k : ℕ) → k < h → (s k).copy ≤ top
@@ -47,17 +47,17 @@ pub record Half (ss : List Symbol) (nodes : List ℕ) (b : List Binding) (top : 
       < nodes_of (resolve (newer ++ b) (whole_of ss nodes (s k)))
 
 -- A pair was opened by way of a bound cell: below 16,384 one that stands for the left whole, else one for the right.
-pub record Via (b : List Binding) (v : ℕ) (left right : RTerm) : Type 0 where
+pub record OpenedByCell (b : List Binding) (v : ℕ) (left right : RTerm) : Type 0 where
   pub small : v < 2 * cells
   pub left_is : v < cells → resolve b (var (variable_of v)) ≡ resolve b left
   pub right_is : cells ≤ v → resolve b (var (variable_of (v - cells))) ≡ resolve b right
 
 pub record Stack (ss : List Symbol) (nodes : List ℕ) (b : List Binding) (top : ℕ) (l r : ℕ → Side) (h : ℕ) : Type 0 where
-  pub left : Half ss nodes b top l h
-  pub right : Half ss nodes b top r h
+  pub left : StackSide ss nodes b top l h
+  pub right : StackSide ss nodes b top r h
   pub same : (k : ℕ) → k < h → (c d : ℕ) → count (terms_at ss nodes (l k).at (end_of nodes (l k)) c) ≡ count (terms_at ss nodes (r k).at (end_of nodes (r k)) d)
   pub via : ℕ → ℕ
-  pub vias : (k : ℕ) → 1 ≤ k → k < h → Via b (via k) (whole_of ss nodes (l k)) (whole_of ss nodes (r k))
+  pub vias : (k : ℕ) → 1 ≤ k → k < h → OpenedByCell b (via k) (whole_of ss nodes (l k)) (whole_of ss nodes (r k))
 
 -- ---- what is done makes the wholes equal
 
@@ -71,7 +71,7 @@ no_term = app [] rnil
 
 -- Newer bindings that make two terms before the rows equal, and what is left of the rows of a pair and of each pair above it, make the wholes of that
 -- pair equal.
-pub record Closes (ss : List Symbol) (nodes : List ℕ) (b : List Binding) (l r : ℕ → Side) (h : ℕ) (t u : RTerm) : Type 0 where
+pub record WholesEqual (ss : List Symbol) (nodes : List ℕ) (b : List Binding) (l r : ℕ → Side) (h : ℕ) (t u : RTerm) : Type 0 where
   pub wholes : (k : ℕ) → k < h → (newer : List Binding) → resolve (newer ++ b) t ≡ resolve (newer ++ b) u
       → ((j : ℕ) → k ≤ j → j < h → SameRows ss nodes (newer ++ b) (l j) (r j)) → resolve (newer ++ b) (whole_of ss nodes (l k))
       ≡ resolve (newer ++ b) (whole_of ss nodes (r k))

@@ -7,7 +7,7 @@ use Rattle.machine.specs.Substitution.{RTerm, RTerms, rcons, copied, occurs, Bin
 use Rattle.machine.specs.Unification.{unify}
 use Rattle.run_layout.specs.Regions.{copies, copy_cells, cells}
 use Rattle.run_layout.specs.Nodes.{Symbol, TermLoaded, Node, term_at}
-use Rattle.run_layout.specs.State.{cell_of, variable_of, cell_at, bindings, Store, Within, Keeps}
+use Rattle.run_layout.specs.State.{cell_of, variable_of, cell_at, bindings, Store, WithinCopies, BindingsKept}
 use Rattle.bindings.specs.Queues.{Clean}
 use Rattle.bindings.specs.Memos.{Memo}
 use Rattle.bindings.specs.Scratch.{left_at, right_at, SameMarks, Roomy}
@@ -16,7 +16,7 @@ use Rattle.bindings.specs.declared.stack.Side.{Side}
 use Rattle.bindings.specs.Orders.{Ordered}
 use Rattle.unify.specs.Rows.{unify_rows, nodes_of, rows_size}
 use Rattle.unify.specs.Walks.{StopsAt, Walks}
-use Rattle.unify.specs.Stacks.{end_of, whole_of, rows_of, Via, Stack, no_term, Closes}
+use Rattle.unify.specs.Stacks.{end_of, whole_of, rows_of, OpenedByCell, Stack, no_term, WholesEqual}
 use Rattle.unify.specs.declared.solve.TurnStop.{TurnStop}
 use Rattle.unify.specs.declared.solve.TurnStop.TheVariants.{Clash, Bind}
 use Rattle.unify.specs.declared.solve.UnifyAnswer.{UnifyAnswer}
@@ -26,36 +26,36 @@ pub record Work (nodes state scratch : List ℕ) (n h : ℕ) : Type 0 where
   pub ss : List Symbol
   pub top : ℕ
   pub store : Store ss nodes state n
-  pub within : Within top state n
+  pub within : WithinCopies top state n
   pub roomy : Roomy scratch
   pub stack : Stack ss nodes (bindings ss nodes state n) top (left_at scratch) (right_at scratch) h
   pub memo : Memo ss nodes (bindings ss nodes state n) scratch
 
 -- What is unified over: a table of nodes with its symbols, n bindings of a state, copies 0 to top.
-pub record Base : Type 0 where
+pub record UnifiedOver : Type 0 where
   pub ss : List Symbol
   pub nodes : List ℕ
   pub state : List ℕ
   pub n : ℕ
   pub top : ℕ
 
-abbrev pub bound : Base → List Binding
+abbrev pub bound : UnifiedOver → List Binding
 bound o = bindings o.ss o.nodes o.state o.n
 
-abbrev pub over : {nodes state scratch : List ℕ} {n h : ℕ} → Work nodes state scratch n h → Base
+abbrev pub over : {nodes state scratch : List ℕ} {n h : ℕ} → Work nodes state scratch n h → UnifiedOver
 over {nodes} {state} {scratch} {n} w = record { ss = w.ss; nodes = nodes; state = state; n = n; top = w.top }
 
 -- From the second pair on the term stands strictly inside the whole of that side of the top pair.
-abbrev pub Inside : Base → ℕ → Side → At → Type 0
+abbrev pub Inside : UnifiedOver → ℕ → Side → At → Type 0
 Inside o h top a = 2 ≤ h → (newer : List Binding) → nodes_of (resolve (newer ++ bound o) (term_at o.ss o.nodes a.node a.copy))
     < nodes_of (resolve (newer ++ bound o) (whole_of o.ss o.nodes top))
 
 -- the stack in these scratch words closes, with these terms
-abbrev pub ClosesWith : Base → List ℕ → ℕ → RTerm → RTerm → Type 0
-ClosesWith o scratch h left right = Closes o.ss o.nodes (bound o) (left_at scratch) (right_at scratch) h left right
+abbrev pub ClosesWith : UnifiedOver → List ℕ → ℕ → RTerm → RTerm → Type 0
+ClosesWith o scratch h left right = WholesEqual o.ss o.nodes (bound o) (left_at scratch) (right_at scratch) h left right
 
 -- The rows to be unified are now those of a stack of height k, and less is left.
-pub record Goes (o : Base) (ls rs : RTerms) (size : ℕ) (after : List ℕ) (k : ℕ) : Type 0 where
+pub record RowsLeft (o : UnifiedOver) (ls rs : RTerms) (size : ℕ) (after : List ℕ) (k : ℕ) : Type 0 where
   pub stack : Stack o.ss o.nodes (bound o) o.top (left_at after) (right_at after) k
   pub means : unify_rows (bound o) ls rs ≡ unify_rows (bound o) (rows_of o.ss o.nodes (left_at after) k) (rows_of o.ss o.nodes (right_at after) k)
   pub less : 2 * rows_size (bound o) (rows_of o.ss o.nodes (left_at after) k) + k < size
@@ -63,7 +63,7 @@ pub record Goes (o : Base) (ls rs : RTerms) (size : ℕ) (after : List ℕ) (k :
   pub closes : ClosesWith o after k no_term no_term
 
 -- The variable of cell x is to be bound to the term a, unless it stands in it; then there is no unifier.
-pub record Binds (o : Base) (ls rs : RTerms) (after : List ℕ) (k x : ℕ) (a : At) : Type 0 where
+pub record BindingDue (o : UnifiedOver) (ls rs : RTerms) (after : List ℕ) (k x : ℕ) (a : At) : Type 0 where
   pub stack : Stack o.ss o.nodes (bound o) o.top (left_at after) (right_at after) k
   pub cell : x < cells
   pub unbound : cell_at o.state x ≡ 0
@@ -78,17 +78,17 @@ pub record Binds (o : Base) (ls rs : RTerms) (after : List ℕ) (k x : ℕ) (a :
       (rows_of o.ss o.nodes (left_at after) k) (rows_of o.ss o.nodes (right_at after) k)
   pub memo : Memo o.ss o.nodes (bound o) after
   pub closes : (T (occurs (variable_of x) (resolve (bound o) (term_at o.ss o.nodes a.node a.copy))) → ⊥)
-      → Closes o.ss o.nodes (record { variable = variable_of x; term = resolve (bound o) (term_at o.ss o.nodes a.node a.copy) } ∷ bound o)
+      → WholesEqual o.ss o.nodes (record { variable = variable_of x; term = resolve (bound o) (term_at o.ss o.nodes a.node a.copy) } ∷ bound o)
       (left_at after) (right_at after) k no_term no_term
 
 -- What a turn comes to: on with a stack of that height, or a stop.
 abbrev pub Turn : Type 0
 Turn = Result ℕ TurnStop
 
-abbrev pub Turns : Base → RTerms → RTerms → ℕ → List ℕ → Turn → Type 0
-Turns o ls rs size after (Ok k) = Goes o ls rs size after k
+abbrev pub Turns : UnifiedOver → RTerms → RTerms → ℕ → List ℕ → Turn → Type 0
+Turns o ls rs size after (Ok k) = RowsLeft o ls rs size after k
 Turns o ls rs size after (Err Clash) = unify_rows (bound o) ls rs ≡ none
-Turns o ls rs size after (Err (Bind k x a)) = Binds o ls rs after k x a
+Turns o ls rs size after (Err (Bind k x a)) = BindingDue o ls rs after k x a
 
 -- a turn with these rows to be unified, of a stack of height h
 abbrev pub RowsTurned : {nodes state before : List ℕ} {n h : ℕ} → Work nodes state before n h → RTerms → RTerms → List ℕ → Turn → Type 0
@@ -122,7 +122,7 @@ pub record Crossed (nodes scratch : List ℕ) (h : ℕ) (p q : At) : Type 0 wher
   pub right : Dereferenced work.ss nodes state work.top q
   pub via : ℕ
   pub via_is : get_or nodes p.node 0 ≡ get_or nodes q.node 0 → first_name ≤ get_or nodes p.node 0
-      → Via (bindings work.ss nodes state n) via (term_at work.ss nodes p.node p.copy) (term_at work.ss nodes q.node q.copy)
+      → OpenedByCell (bindings work.ss nodes state n) via (term_at work.ss nodes p.node p.copy) (term_at work.ss nodes q.node q.copy)
   pub inside : Inside (over work) h (left_at scratch (h - 1)) p
   pub inside_right : Inside (over work) h (right_at scratch (h - 1)) q
   pub closes : ClosesWith (over work) scratch h (term_at work.ss nodes p.node p.copy) (term_at work.ss nodes q.node q.copy)
@@ -198,10 +198,10 @@ pub record ReadyToUnify (nodes state scratch : List ℕ) (n h : ℕ) : Type 0 wh
 abbrev pub TurnsTaken : Type 0
 TurnsTaken = Result (Unit {0}) TurnStop
 
-abbrev pub LoopGives : Base → RTerms → RTerms → List ℕ → TurnsTaken → Type 0
+abbrev pub LoopGives : UnifiedOver → RTerms → RTerms → List ℕ → TurnsTaken → Type 0
 LoopGives o ls rs after (Ok u) = unify_rows (bound o) ls rs ≡ some (bound o)
 LoopGives o ls rs after (Err Clash) = unify_rows (bound o) ls rs ≡ none
-LoopGives o ls rs after (Err (Bind k x a)) = Binds o ls rs after k x a
+LoopGives o ls rs after (Err (Bind k x a)) = BindingDue o ls rs after k x a
 
 abbrev pub Advanced : {nodes state before : List ℕ} {n h : ℕ} → Work nodes state before n h → List ℕ → TurnsTaken → Type 0
 Advanced {nodes} {state} {before} {n} {h} w after t =
@@ -224,8 +224,8 @@ pub record Solvable (nodes state scratch : List ℕ) (n : ℕ) : Type 0 where
 pub record Solved {nodes before scratch : List ℕ} {n : ℕ} (g : Solvable nodes before scratch n) (after later : List ℕ) (r : UnifyAnswer) : Type 0 where
   pub grows : n ≤ r.trail
   pub store : Store g.work.ss nodes after r.trail
-  pub within : Within g.work.top after r.trail
-  pub keeps : Keeps n before after
+  pub within : WithinCopies g.work.top after r.trail
+  pub keeps : BindingsKept n before after
   pub clean : Clean later
   pub long : length later ≡ length scratch
   pub answer : unify_rows (bindings g.work.ss nodes before n) (rows_of g.work.ss nodes (left_at scratch) 1) (rows_of g.work.ss nodes (right_at scratch) 1)
@@ -236,7 +236,7 @@ pub record Unifiable (nodes state scratch : List ℕ) (p q : At) (n : ℕ) : Typ
   pub ss : List Symbol
   pub top : ℕ
   pub store : Store ss nodes state n
-  pub within : Within top state n
+  pub within : WithinCopies top state n
   pub roomy : Roomy scratch
   pub clean : Clean scratch
   pub left : Node ss nodes p.node
@@ -252,8 +252,8 @@ pub record UnifyGives {nodes before scratch : List ℕ} {p q : At} {n : ℕ} (g 
     : Type 0 where
   pub grows : n ≤ r.trail
   pub store : Store g.ss nodes after r.trail
-  pub within : Within g.top after r.trail
-  pub keeps : Keeps n before after
+  pub within : WithinCopies g.top after r.trail
+  pub keeps : BindingsKept n before after
   pub clean : Clean later
   pub long : length later ≡ length scratch
   pub answer : (t u : Term) → TermLoaded g.ss nodes p.node t → TermLoaded g.ss nodes q.node u

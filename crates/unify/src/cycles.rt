@@ -1,7 +1,5 @@
 // Whether a binding closes a cycle. Where the order of cells shows that it does not, nothing is searched. A search is exact; when searches have looked at many
 // words, what the unification will bind is guessed, and the order is made anew from the guess, so that it serves for the bindings to come.
-// The cell that is to be bound, its term and the height of the stack go along as parameters: `TurnStop::Bind` brings them, in a crate above, and is taken
-// apart once.
 
 ghost use Rattle.std.specs.Prelude.{◌+◌, ◌*◌, ◌≤◌, ◌<◌};
 ghost use Rattle.run_layout.specs.Regions.{cells, pairs};
@@ -67,7 +65,7 @@ fn spend(scratch: &mut [u32], cost: usize)
     put(scratch, PURSE_WORD, left - cost);
 }
 
-// A unification begins: no cell has a place in the order, and the purse is full.
+/// Begins a unification: no cell has a place in the order, and the purse is full.
 pub fn begin(scratch: &mut [u32])
     requires { Roomy scratch.old }
     ensures { Begun scratch.old scratch.new }
@@ -76,8 +74,7 @@ pub fn begin(scratch: &mut [u32])
     fill_purse(scratch, FIRST_PURSE);
 }
 
-// Whether cell x has a place in the order. (`bindings::orders::place_of` asks that the list is one of cells in their places; here nothing is asked, since a wrong
-// answer costs one try more.)
+// Whether cell x has a place in the order. Nothing is asked of the list, since a wrong answer costs one try more.
 fn has_place(scratch: &[u32], x: usize) -> bool
     requires { (Roomy scratch.now) × (x < cells) }
 {
@@ -166,8 +163,8 @@ fn search(nodes: &[u32], state: &[u32], scratch: &mut [u32], x: usize, q: At) ->
     r.found
 }
 
-// Whether the unbound variable of cell x stands in the term q, with the bindings put in; the copies below k are closed, and h pairs are on the
-// work stack.
+/// Whether the unbound variable of cell x stands in the term q, with the bindings put in; the copies below k are closed, and h pairs are on the
+/// work stack.
 pub fn check(
     nodes: &[u32],
     state: &[u32],
@@ -180,7 +177,6 @@ pub fn check(
     requires { (Guardable nodes.now state.now scratch.old x q) × ((Closed k state.now) × (h ≤ pairs)) }
     ensures { (g : Guardable nodes.now state.now scratch.old x q) → Guarded g scratch.new result }
 {
-    // One test after the other: tried as one expression, and the proof did not close, since the scratch words behind it are those of any of three calls.
     if shows(nodes, scratch, x, q) {
         return false;
     }

@@ -1,4 +1,4 @@
-// Unification over the words of a run, by the trail and cells of `bindings`; and whether a binding closes a cycle.
+// Unification over the words of a run, by the trail and cells of `bindings`, with the occurs check: whether a binding closes a cycle.
 
 #![tactic(auto)]
 

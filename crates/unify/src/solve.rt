@@ -11,16 +11,16 @@ ghost use Rattle.unify.specs.Stacks.{only_row, inner_row};
 use crate::cycles::{begin, check};
 use crate::walk::{WalkStop, walk_rows};
 use bindings::memos::{forget, known, remember};
-use bindings::occurrence::{closed_to, size_at};
+use bindings::occurrence::closed_to;
 use bindings::shortcuts::follow;
 use bindings::stack::{Side, put_pair, side_at};
 use bindings::store::bind;
 use run_layout::terms::{At, pack};
 use run_layout::{LOADED_NODE, PAIR_SIZE, SIDE_SIZE, STACK, cell_of};
 use syntax::FIRST_NAME;
-use words::tables::word_at;
+use words::tables::{size_at, word_at};
 
-// Why turns do not go on, the error of their Result: names that differ, or a variable that is to be bound.
+/// Why turns do not go on: names that differ, or the variable of a cell that is to be bound to a term, with so many pairs on the stack.
 #[derive(Clone, Copy)]
 pub enum TurnStop {
     Clash,
@@ -31,7 +31,7 @@ pub enum TurnStop {
     },
 }
 
-// Whether the two became equal, and the length of the trail, which is told in either case: a Result would have it on both sides.
+/// Whether the two became equal, and the length of the trail.
 #[derive(Clone, Copy)]
 pub struct UnifyAnswer {
     pub equal: bool,
@@ -217,7 +217,7 @@ fn advance(
     ensures { (g : ReadyToUnify nodes.now state.now scratch.old n h) → Advanced g.work scratch.new result }
 {
     let mut k = h;
-    // No `for`: a turn takes a pair from the stack or puts one upon it, so how many turns there are is known only at the end.
+    // A turn takes a pair from the stack or puts one upon it, so how many turns there are is known only at the end.
     while 0 < k {
         k = next_turn(nodes, state, scratch, k)?;
     }
@@ -239,7 +239,7 @@ fn solve_pair(
     let mut trail = n;
     let mut h = 1;
     let mut closed = k;
-    // No `for`: how many bindings there will be is known only at the end.
+    // How many bindings there will be is known only at the end.
     loop {
         let t = advance(nodes, state, scratch, trail, h);
         match t {
@@ -266,7 +266,7 @@ fn solve_pair(
     }
 }
 
-// As `unify`, with the copies below k closed.
+/// As `unify`, with the copies below k closed: their cells are bound to terms of such copies only.
 pub fn unify_closed(
     nodes: &[u32],
     state: &mut [u32],
@@ -286,7 +286,7 @@ pub fn unify_closed(
     solve_pair(nodes, state, scratch, n, k)
 }
 
-// The terms p and q unified, with n bindings. Where they do not unify, the trail is left as it then is.
+/// Unifies the terms p and q, with n bindings on the trail. Where they do not unify, the trail is left as it then is.
 pub fn unify(
     nodes: &[u32],
     state: &mut [u32],

@@ -1,21 +1,19 @@
 // Two clause terms side by side. One term and a list of terms call each other, within the brackets of the clause: at most 16 brackets, each with
 // at most 8 terms left, so the calls nest some 150 deep at most.
-// The nodes and three places are parameters of each function and no struct: a walk changes two of the places at each call, and these are the calls whose
-// instructions are counted at `begin_list`.
 ghost use Rattle.unify.specs.Walks.{Walkable, TwoNodes, WalksTerms, WalksRows};
 
-use bindings::occurrence::size_at;
 use run_layout::LOADED_NODE;
 use syntax::FIRST_NAME;
-use words::tables::word_at;
+use words::tables::{size_at, word_at};
 
-// Why a walk stops before the end, the error of its Result: names differ, or at these first places a variable stands on a side.
+/// Why a walk stops before the end: names differ, or at these first places a variable stands on a side.
 #[derive(Clone, Copy)]
 pub enum WalkStop {
     Clash,
     Met { left: usize, right: usize },
 }
 
+/// Walks the terms at p and q side by side: Ok where they are the same and have no variable.
 #[cycle(unify_list_unify_term)]
 pub fn unify_term(nodes: &[u32], p: usize, q: usize) -> Result<(), WalkStop>
     requires { TwoNodes nodes.now p q }
@@ -38,7 +36,7 @@ pub fn unify_term(nodes: &[u32], p: usize, q: usize) -> Result<(), WalkStop>
     unify_list(nodes, i, e, j)
 }
 
-// The terms from p up to e, and as many from q on.
+/// Walks the terms from p up to e, and as many from q on, as `unify_term` does.
 #[cycle(unify_list_unify_term)]
 pub fn unify_list(nodes: &[u32], p: usize, e: usize, q: usize) -> Result<(), WalkStop>
     requires { Walkable nodes.now p e q }
@@ -53,9 +51,8 @@ pub fn unify_list(nodes: &[u32], p: usize, e: usize, q: usize) -> Result<(), Wal
     unify_list(nodes, i, e, j)
 }
 
-// As `unify_list`, without a call where the rows are at their end or begin with a variable. This, `begin_term` and `walk_rows` are beside `unify_list` and
-// `unify_term` for speed. The bar is commit 3e725cc8, where 65,536 steps of "bits" and of "reverses" (bench/) took 86.5 and 154.7 million instructions by
-// callgrind, in a build with checks: it is 91.2 and 165.8 with the pair alone, 85.9 and 154.6 with these.
+// As `unify_list`, without a call where the rows are at their end or begin with a variable. This, `begin_term` and `walk_rows` stand beside `unify_list` and
+// `unify_term` since most walks end at once, and these decide the speed of a step.
 fn begin_list(nodes: &[u32], p: usize, e: usize, q: usize) -> Result<(), WalkStop>
     requires { Walkable nodes.now p e q }
     ensures { WalksRows nodes.now p e q result }
@@ -72,7 +69,7 @@ fn begin_list(nodes: &[u32], p: usize, e: usize, q: usize) -> Result<(), WalkSto
     unify_list(nodes, p, e, q)
 }
 
-// As `unify_term`, its arguments by `begin_list`. One function for both would take the one to go on with, a closure in a cycle of calls: no plainer.
+// As `unify_term`, its arguments by `begin_list`.
 fn begin_term(nodes: &[u32], p: usize, q: usize) -> Result<(), WalkStop>
     requires { TwoNodes nodes.now p q }
     ensures { WalksTerms nodes.now p q result }
@@ -94,7 +91,7 @@ fn begin_term(nodes: &[u32], p: usize, q: usize) -> Result<(), WalkStop>
     begin_list(nodes, i, e, j)
 }
 
-// As `unify_list`, its first terms by `begin_term`: most walks end there, and have called nothing that answers through memory.
+/// As `unify_list`, its first terms by `begin_term`: most walks end there.
 pub fn walk_rows(nodes: &[u32], p: usize, e: usize, q: usize) -> Result<(), WalkStop>
     requires { Walkable nodes.now p e q }
     ensures { WalksRows nodes.now p e q result }

@@ -11,7 +11,7 @@ use lib.Seq.{sets, sets-eq, length-take-le, set_out, take_all}
 use borrow.Rule.Slice.PartMut.{put_mid}
 use Rattle.std.proofs.lemmas.Slice.{put_mid-paste}
 use borrow.Author.Tests.{ltb-true, ltb-false, lt-ltb, le-ltb, le-leb, lt-leb}
-use Rattle.words.specs.Buffers.{Put, digits, decimal, fitted_length, fitted}
+use Rattle.words.specs.Buffers.{Appended, digits, decimal, fitted_length, fitted}
 
 -- ---- appending
 
@@ -21,11 +21,11 @@ sets-append l i (x ∷ xs) ys =
     sets-append (set l i x) (suc i) xs ys
     ∙ ap (λ (k : ℕ). sets (sets (set l i x) (suc i) xs) k ys) (suc-add i (length xs) ∙ sym (add-suc i (length xs)))
 
-pub nothing : {A : Type 0} (l : List A) (i : ℕ) → Put l i [] l i
+pub nothing : {A : Type 0} (l : List A) (i : ℕ) → Appended l i [] l i
 nothing l i = record { text = refl; past = sym (add-zero i) }
 
 -- one append after another
-pub then : {A : Type 0} {l l' l'' : List A} {i j k : ℕ} {xs ys : List A} → Put l i xs l' j → Put l' j ys l'' k → Put l i (xs ++ ys) l'' k
+pub then : {A : Type 0} {l l' l'' : List A} {i j k : ℕ} {xs ys : List A} → Appended l i xs l' j → Appended l' j ys l'' k → Appended l i (xs ++ ys) l'' k
 then {A} {l} {l'} {l''} {i} {j} {k} {xs} {ys} p q =
     record {
       text = q.text ∙ ap (λ (n : ℕ). sets l' n ys) p.past ∙ ap (λ (m : List A). sets m (i + length xs) ys) p.text ∙ sym (sets-append l i xs ys);
@@ -33,11 +33,11 @@ then {A} {l} {l'} {l''} {i} {j} {k} {xs} {ys} p q =
     }
 
 -- the same words, written otherwise
-pub spelt : {l l' : List ℕ} {i j : ℕ} {ws vs : List ℕ} → ws ≡ vs → Put l i vs l' j → Put l i ws l' j
+pub spelt : {l l' : List ℕ} {i j : ℕ} {ws vs : List ℕ} → ws ≡ vs → Appended l i vs l' j → Appended l i ws l' j
 spelt e p = rw e p
 
 -- past the end there is nothing to store
-pub out_of_range : {A : Type 0} (l : List A) (i : ℕ) (b : A) → length l ≤ i → Put l i (b ∷ []) l (i + 1)
+pub out_of_range : {A : Type 0} (l : List A) (i : ℕ) (b : A) → length l ≤ i → Appended l i (b ∷ []) l (i + 1)
 out_of_range l i b h = record { text = sym (set_out l i b h); past = refl }
 
 -- items behind those that fit are not stored
@@ -49,12 +49,12 @@ sets_fitting l i zero (x ∷ xs) h =
 sets_fitting l i (suc n) (x ∷ xs) h = sets_fitting (set l i x) (suc i) n xs (omega (arith, h, length-set l i x))
 
 -- past the end none fits
-pub all_out : {A : Type 0} (l : List A) (i : ℕ) (xs : List A) → length l ≤ i → Put l i xs l (i + length xs)
+pub all_out : {A : Type 0} (l : List A) (i : ℕ) (xs : List A) → length l ≤ i → Appended l i xs l (i + length xs)
 all_out l i xs h = record { text = sym (sets_fitting l i 0 xs (omega (arith, h))); past = refl }
 
 -- those that fit, stored at once
 pub all_fitting : {A : Type 0} (l : List A) (i n k : ℕ) (xs ys : List A) → i < length l → n ≡ min (length xs) (length l - i) → k ≡ n → ys ≡ take n xs
-    → Put l i xs (put_mid i k l ys) (i + length xs)
+    → Appended l i xs (put_mid i k l ys) (i + length xs)
 all_fitting l i n k xs ys h e f w =
     let long : length (take n xs) ≡ n = length-take-le n xs (omega (arith, e)) in
     record {
@@ -66,7 +66,7 @@ all_fitting l i n k xs ys h e f w =
     }
 
 -- all of a text is such a part
-pub whole_part : (l : List ℕ) (at : ℕ) (ws m : List ℕ) (past : ℕ) → Put l at (take (length ws) (drop 0 ws)) m past → Put l at ws m past
+pub whole_part : (l : List ℕ) (at : ℕ) (ws m : List ℕ) (past : ℕ) → Appended l at (take (length ws) (drop 0 ws)) m past → Appended l at ws m past
 whole_part l at ws m past p = rw (take_all (length ws) ws (omega arith)) at p
 
 -- ---- decimal digits
@@ -117,21 +117,21 @@ pub decimal-few : (n : ℕ) → n < 2 ^ 64 → length (decimal n) ≤ 20
 unfolding decimal
 decimal-few n h = few (suc n) 19 n (omega arith)
 
-pub first-digit : {l l' : List ℕ} {i j n : ℕ} → n < 10 → Put l i ((48 + n) ∷ []) l' j → Put l i (decimal n) l' j
+pub first-digit : {l l' : List ℕ} {i j n : ℕ} → n < 10 → Appended l i ((48 + n) ∷ []) l' j → Appended l i (decimal n) l' j
 first-digit {n = n} h p = rw (decimal-one n h) p
 
-pub next-digit : {l l' l'' : List ℕ} {i j k n : ℕ} → 10 ≤ n → Put l i (decimal (n / 10)) l' j → Put l' j ((48 + n % 10) ∷ []) l'' k → Put l i (decimal n) l'' k
+pub next-digit : {l l' l'' : List ℕ} {i j k n : ℕ} → 10 ≤ n → Appended l i (decimal (n / 10)) l' j → Appended l' j ((48 + n % 10) ∷ []) l'' k → Appended l i (decimal n) l'' k
 next-digit {n = n} h p q = rw (decimal-more n h) (then p q)
 
 -- ---- a line that is measured first
 
-pub measured : {line b b' out out' : List ℕ} {m n : ℕ} → Put b 0 line b' m → m ≤ length out → Put out 0 line out' n
+pub measured : {line b b' out out' : List ℕ} {m n : ℕ} → Appended b 0 line b' m → m ≤ length out → Appended out 0 line out' n
     → (n ≡ fitted_length line out) × (out' ≡ fitted line out)
 measured {line} {out = out} p h q =
     let fits : leb (length line) (length out) ≡ true = le-leb (length line) (length out) (omega (arith, p.past)) in
     (rw fits (omega (arith, q.past)), rw fits q.text)
 
-pub too_long : {line b b' out : List ℕ} {m : ℕ} → Put b 0 line b' m → length out < m → (◌≡◌ {A = ℕ} 0 (fitted_length line out)) × (out ≡ fitted line out)
+pub too_long : {line b b' out : List ℕ} {m : ℕ} → Appended b 0 line b' m → length out < m → (◌≡◌ {A = ℕ} 0 (fitted_length line out)) × (out ≡ fitted line out)
 too_long {line} {out = out} p h =
     let over : leb (length line) (length out) ≡ false = lt-leb (length line) (length out) (omega (arith, p.past)) in
     (rw over, rw over)

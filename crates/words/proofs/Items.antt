@@ -6,7 +6,7 @@ use mathlib.Core.List.{List, [], ◌∷◌, ◌++◌, append-nil, append_assoc}
 use lib.ListN.{length, get_or, length-append}
 use Rattle.syntax.specs.Terms.{Term, Atom, term_of, Literal, call, equation, truth, falsity, either, Body, done, also}
 use Rattle.syntax.specs.Words.{truth_kind, falsity_kind, call_kind, equation_kind, left_kind, right_kind, behind_kind, marker, term_words, atom_words, literal_length, body_length, literal_words, body_words}
-use Rattle.words.specs.Tables.{Has, NodeInTable}
+use Rattle.words.specs.Tables.{WordsAt, NodeInTable}
 use Rattle.words.specs.Items.{Item, plain_call, plain_equation, plain_truth, plain_falsity, before_left, before_right, behind, item_words, items_words, literal_items, items, ItemsAt}
 use Rattle.words.proofs.TablesLaws.{has_left, has_right, size_is, term_inside}
 
@@ -58,15 +58,15 @@ mutual
       omega (arith, literal-many x, body-many b)
 
 -- so a body that stands is its items that stand
-pub items-stand : (table : List ℕ) (p : ℕ) (b : Body) → Has table p (body_words b) → Has table p (items_words (items b))
-items-stand table p b h = subst⁻¹ (Has table p) (body-words b) h
+pub items-stand : (table : List ℕ) (p : ℕ) (b : Body) → WordsAt table p (body_words b) → WordsAt table p (items_words (items b))
+items-stand table p b h = subst⁻¹ (WordsAt table p) (body-words b) h
 
 -- the first of some items, and those behind it
-pub first-stands : (table : List ℕ) (p : ℕ) (x : Item) (xs : List Item) → Has table p (items_words (x ∷ xs)) → Has table p (item_words x)
+pub first-stands : (table : List ℕ) (p : ℕ) (x : Item) (xs : List Item) → WordsAt table p (items_words (x ∷ xs)) → WordsAt table p (item_words x)
 unfolding items_words
 first-stands table p x xs h = has_left table p (item_words x) (items_words xs) h
 
-pub rest-stand : (table : List ℕ) (p : ℕ) (x : Item) (xs : List Item) → Has table p (items_words (x ∷ xs)) → Has table (p + length (item_words x)) (items_words xs)
+pub rest-stand : (table : List ℕ) (p : ℕ) (x : Item) (xs : List Item) → WordsAt table p (items_words (x ∷ xs)) → WordsAt table (p + length (item_words x)) (items_words xs)
 unfolding items_words
 rest-stand table p x xs h = has_right table p (item_words x) (items_words xs) h
 
@@ -75,14 +75,14 @@ rest-stand table p x xs h = has_right table p (item_words x) (items_words xs) h
 pub data View (table : List ℕ) (p : ℕ) : Item → Type 0 where
   view_truth : get_or table p 0 ≡ truth_kind → View table p plain_truth
   view_falsity : get_or table p 0 ≡ falsity_kind → View table p plain_falsity
-  view_call : {a : Atom} → get_or table p 0 ≡ call_kind → Has table (p + 1) (atom_words a) → View table p (plain_call a)
-  view_equation : {t u : Term} → get_or table p 0 ≡ equation_kind → Has table (p + 1) (term_words t) → Has table (p + 1 + length (term_words t)) (term_words u)
+  view_call : {a : Atom} → get_or table p 0 ≡ call_kind → WordsAt table (p + 1) (atom_words a) → View table p (plain_call a)
+  view_equation : {t u : Term} → get_or table p 0 ≡ equation_kind → WordsAt table (p + 1) (term_words t) → WordsAt table (p + 1 + length (term_words t)) (term_words u)
       → View table p (plain_equation t u)
   view_left : {n : ℕ} → get_or table p 0 ≡ marker left_kind n → View table p (before_left n)
   view_right : {n : ℕ} → get_or table p 0 ≡ marker right_kind n → View table p (before_right n)
   view_behind : get_or table p 0 ≡ behind_kind → View table p behind
 
-pub view : (table : List ℕ) (p : ℕ) (x : Item) → Has table p (item_words x) → View table p x
+pub view : (table : List ℕ) (p : ℕ) (x : Item) → WordsAt table p (item_words x) → View table p x
 unfolding item_words
 view table p plain_truth h = view_truth h.1
 view table p plain_falsity h = view_falsity h.1
@@ -93,7 +93,7 @@ view table p (before_left n) h = view_left h.1
 view table p (before_right n) h = view_right h.1
 view table p behind h = view_behind h.1
 
-pub item_room : (table : List ℕ) (p : ℕ) (x : Item) → Has table p (item_words x) → p < length table
+pub item_room : (table : List ℕ) (p : ℕ) (x : Item) → WordsAt table p (item_words x) → p < length table
 unfolding item_words
 item_room table p plain_truth h = h.0
 item_room table p plain_falsity h = h.0
@@ -116,10 +116,10 @@ module _ (table : List ℕ) (p word : ℕ) (e : word ≡ get_or table p 0) where
   one-word k m (view_right q) = refl
   one-word k m (view_behind q) = refl
 
-  pub past-none : word < call_kind → (x : Item) → Has table p (item_words x) → p + 1 ≡ p + length (item_words x)
+  pub past-none : word < call_kind → (x : Item) → WordsAt table p (item_words x) → p + 1 ≡ p + length (item_words x)
   past-none k x h = one-word (λ q. omega arith) (λ q. omega arith) (view table p x h)
 
-  pub past-marker : equation_kind < word → (x : Item) → Has table p (item_words x) → p + 1 ≡ p + length (item_words x)
+  pub past-marker : equation_kind < word → (x : Item) → WordsAt table p (item_words x) → p + 1 ≡ p + length (item_words x)
   past-marker k x h = one-word (λ q. omega arith) (λ q. omega arith) (view table p x h)
 
   module _ (l : call_kind ≤ word) (m : word ≤ equation_kind) where
@@ -132,7 +132,7 @@ module _ (table : List ℕ) (p word : ℕ) (e : word ≡ get_or table p 0) where
     first-by (view_right q) = absurd (omega arith)
     first-by (view_behind q) = absurd (omega arith)
 
-    pub first-inside : (x : Item) → Has table p (item_words x) → NodeInTable table (p + 1)
+    pub first-inside : (x : Item) → WordsAt table p (item_words x) → NodeInTable table (p + 1)
     first-inside x h = first-by (view table p x h)
 
     module _ (next : ℕ) (n : next ≡ p + 1 + get_or table (p + 1 + 1) 0) where
@@ -146,7 +146,7 @@ module _ (table : List ℕ) (p word : ℕ) (e : word ≡ get_or table p 0) where
       call_by k (view_right q) = absurd (omega arith)
       call_by k (view_behind q) = absurd (omega arith)
 
-      pub past-call : word ≡ call_kind → (x : Item) → Has table p (item_words x) → next ≡ p + length (item_words x)
+      pub past-call : word ≡ call_kind → (x : Item) → WordsAt table p (item_words x) → next ≡ p + length (item_words x)
       past-call k x h = call_by k (view table p x h)
 
       module _ (d : word ≡ call_kind → ⊥) where
@@ -157,12 +157,12 @@ module _ (table : List ℕ) (p word : ℕ) (e : word ≡ get_or table p 0) where
         right_by (view_equation {t} {u} q h r) =
             let z : get_or table (p + 1 + 1) 0 ≡ length (term_words t) = size_is table (p + 1) t h in
             let y : p + 1 + length (term_words t) ≡ next = omega arith in
-            term_inside table next u (subst (λ (i : ℕ). Has table i (term_words u)) y r)
+            term_inside table next u (subst (λ (i : ℕ). WordsAt table i (term_words u)) y r)
         right_by (view_left q) = absurd (omega arith)
         right_by (view_right q) = absurd (omega arith)
         right_by (view_behind q) = absurd (omega arith)
 
-        pub right-inside : (x : Item) → Has table p (item_words x) → NodeInTable table next
+        pub right-inside : (x : Item) → WordsAt table p (item_words x) → NodeInTable table next
         right-inside x h = right_by (view table p x h)
 
         equation-by : {x : Item} → View table p x → next + get_or table (next + 1) 0 ≡ p + length (item_words x)
@@ -173,14 +173,14 @@ module _ (table : List ℕ) (p word : ℕ) (e : word ≡ get_or table p 0) where
         equation-by (view_equation {t} {u} q h r) =
             let z : get_or table (p + 1 + 1) 0 ≡ length (term_words t) = size_is table (p + 1) t h in
             let y : p + 1 + length (term_words t) ≡ next = omega arith in
-            let v : get_or table (next + 1) 0 ≡ length (term_words u) = size_is table next u (subst (λ (i : ℕ). Has table i (term_words u)) y r) in
+            let v : get_or table (next + 1) 0 ≡ length (term_words u) = size_is table next u (subst (λ (i : ℕ). WordsAt table i (term_words u)) y r) in
             let s : length (term_words t ++ term_words u) ≡ length (term_words t) + length (term_words u) = length-append (term_words t) (term_words u) in
             omega arith
         equation-by (view_left q) = absurd (omega arith)
         equation-by (view_right q) = absurd (omega arith)
         equation-by (view_behind q) = absurd (omega arith)
 
-        pub past-equation : (stop : ℕ) → stop ≡ next + get_or table (next + 1) 0 → (x : Item) → Has table p (item_words x) → stop ≡ p + length (item_words x)
+        pub past-equation : (stop : ℕ) → stop ≡ next + get_or table (next + 1) 0 → (x : Item) → WordsAt table p (item_words x) → stop ≡ p + length (item_words x)
         past-equation stop s x h = s ∙ equation-by (view table p x h)
 
 -- ---- the place past a body
@@ -188,7 +188,7 @@ module _ (table : List ℕ) (p word : ℕ) (e : word ≡ get_or table p 0) where
 -- What is left of a body's items, of which i are behind, ends at stop.
 pub record ItemsOn (table : List ℕ) (at i many stop : ℕ) : Type 0 where
   pub rest : List Item
-  pub has : Has table at (items_words rest)
+  pub has : WordsAt table at (items_words rest)
   pub count : i + length rest ≡ many
   pub ends : at + length (items_words rest) ≡ stop
 
@@ -201,12 +201,12 @@ on-begin table p many b w = record {
 }
 
 module _ (table : List ℕ) (at i many stop : ℕ) (l : i < many) where
-  first-in : (xs : List Item) → Has table at (items_words xs) → i + length xs ≡ many → (x : Item) × Has table at (item_words x)
+  first-in : (xs : List Item) → WordsAt table at (items_words xs) → i + length xs ≡ many → (x : Item) × WordsAt table at (item_words x)
   first-in [] h e = absurd (let z : i + 0 ≡ many = e in omega arith)
   first-in (x ∷ xs) h e = (x, first-stands table at x xs h)
 
-  next-in : (next : ℕ) → ((x : Item) → Has table at (item_words x) → next ≡ at + length (item_words x))
-      → (xs : List Item) → Has table at (items_words xs) → i + length xs ≡ many → at + length (items_words xs) ≡ stop → ItemsOn table next (i + 1) many stop
+  next-in : (next : ℕ) → ((x : Item) → WordsAt table at (item_words x) → next ≡ at + length (item_words x))
+      → (xs : List Item) → WordsAt table at (items_words xs) → i + length xs ≡ many → at + length (items_words xs) ≡ stop → ItemsOn table next (i + 1) many stop
   unfolding items_words
   next-in next n [] h e s = absurd (let z : i + 0 ≡ many = e in omega arith)
   next-in next n (x ∷ xs) h e s =
@@ -214,13 +214,13 @@ module _ (table : List ℕ) (at i many stop : ℕ) (l : i < many) where
       let z : length (item_words x ++ items_words xs) ≡ length (item_words x) + length (items_words xs) = length-append (item_words x) (items_words xs) in
       let y : at + length (item_words x ++ items_words xs) ≡ stop = s in
       let c : i + suc (length xs) ≡ many = e in
-      record { rest = xs; has = subst⁻¹ (λ (k : ℕ). Has table k (items_words xs)) q (rest-stand table at x xs h); count = omega arith; ends = omega arith }
+      record { rest = xs; has = subst⁻¹ (λ (k : ℕ). WordsAt table k (items_words xs)) q (rest-stand table at x xs h); count = omega arith; ends = omega arith }
 
 module _ {table : List ℕ} {at i many stop : ℕ} (l : i < many) where
-  pub on-first : ItemsOn table at i many stop → (x : Item) × Has table at (item_words x)
+  pub on-first : ItemsOn table at i many stop → (x : Item) × WordsAt table at (item_words x)
   on-first w = first-in table at i many stop l w.rest w.has w.count
 
-  pub on-next : {next : ℕ} → ItemsOn table at i many stop → ((x : Item) → Has table at (item_words x) → next ≡ at + length (item_words x)) → ItemsOn table next (i + 1) many stop
+  pub on-next : {next : ℕ} → ItemsOn table at i many stop → ((x : Item) → WordsAt table at (item_words x) → next ≡ at + length (item_words x)) → ItemsOn table next (i + 1) many stop
   on-next {next} w n = next-in table at i many stop l next n w.rest w.has w.count w.ends
 
 pub on-end : {table : List ℕ} {at i many stop : ℕ} → many ≤ i → ItemsOn table at i many stop → at ≡ stop

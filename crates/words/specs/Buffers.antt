@@ -15,6 +15,10 @@ decimal n = digits (suc n) n
 abbrev pub number : ℕ → List ℕ
 number n = (32 ∷ []) ++ decimal n
 
+-- The words of a line that tells a verdict have at most so many bytes: 16 of `refused workings`, and five numbers of at most 20 digits with a space before each.
+abbrev pub line_words : ℕ
+line_words = 121
+
 -- the line's length where the whole line fits the buffer, and 0 where it does not
 abbrev pub fitted_length : List ℕ → List ℕ → ℕ
 fitted_length line out = cond (leb (length line) (length out)) (length line) 0
@@ -24,6 +28,6 @@ abbrev pub fitted : List ℕ → List ℕ → List ℕ
 fitted line out = cond (leb (length line) (length out)) (sets out 0 line) out
 
 -- What appending leaves: the words stand in the buffer from `at` on, as far as it goes, and the next position is past them.
-pub record Put {A : Type 0} (old : List A) (at : ℕ) (words new : List A) (next : ℕ) : Type 0 where
+pub record Appended {A : Type 0} (old : List A) (at : ℕ) (words new : List A) (next : ℕ) : Type 0 where
   pub text : new ≡ sets old at words
   pub past : next ≡ at + length words

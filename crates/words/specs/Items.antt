@@ -4,7 +4,7 @@ use Rattle.syntax.specs.Terms.{Term, Atom, Literal, call, equation, truth, falsi
 use Rattle.syntax.specs.Words.{term_words, atom_words, truth_kind, falsity_kind, call_kind, equation_kind, marker, body_length}
 use Rattle.syntax.specs.Words.{left_kind, right_kind, behind_kind}
 use Rattle.syntax.specs.Words.{body_words}
-use Rattle.words.specs.Tables.{Has}
+use Rattle.words.specs.Tables.{WordsAt}
 
 -- A plain literal; or a word of a bracket: before its left side or its right side, with the number of items of that side, or behind the bracket.
 pub data Item : Type 0 where
@@ -45,5 +45,5 @@ unfoldable mutual
 
 -- a body of so many items stands from p on
 pub record ItemsAt (table : List ℕ) (p count : ℕ) (b : Body) : Type 0 where
-  pub has : Has table p (body_words b)
+  pub has : WordsAt table p (body_words b)
   pub many : count ≡ body_length b

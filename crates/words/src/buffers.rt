@@ -1,15 +1,15 @@
 // Bytes into a lent buffer. Each function writes from a position on and returns the position past what it wrote; bytes at or past the buffer's end are left
-// out but counted, so a buffer of no bytes measures. (Buffer and position, and no String or Vec: the library allocates nothing. And a slice is no writer of
-// `fmt`; one of our own would have to count on past the end and say all this again.)
+// out but counted, so a buffer of no bytes measures. Nothing is allocated.
 
 ghost use Rattle.std.specs.Prelude.{◌≡◌, [], ◌∷◌, ◌+◌, ◌^◌, ◌≤◌, ◌<◌, length};
 ghost use Rattle.syntax.specs.Tokens.{spelling};
-ghost use Rattle.words.specs.Buffers.{Put, decimal, number};
+ghost use Rattle.words.specs.Buffers.{Appended, decimal, number, line_words};
 ghost use Rattle.words.specs.Feeds.{past_lines};
 
+/// Appends one byte.
 pub fn append_byte(byte: u8, out: &mut [u8], at: usize) -> usize
     requires { at + 1 < 2 ^ 64 }
-    ensures { Put out.old at (byte ∷ []) out.new result }
+    ensures { Appended out.old at (byte ∷ []) out.new result }
 {
     if at < out.len() {
         out[at] = byte;
@@ -17,10 +17,10 @@ pub fn append_byte(byte: u8, out: &mut [u8], at: usize) -> usize
     at + 1
 }
 
-// All of the items, of whatever type.
+/// Appends all items of a slice, of whatever type.
 pub fn append_all<T: Copy>(items: &[T], out: &mut [T], at: usize) -> usize
     requires { at + length items.now < 2 ^ 64 }
-    ensures { Put out.old at items.now out.new result }
+    ensures { Appended out.old at items.now out.new result }
 {
     if at < out.len() {
         let fitting = items.len().min(out.len() - at);
@@ -29,18 +29,18 @@ pub fn append_all<T: Copy>(items: &[T], out: &mut [T], at: usize) -> usize
     at + items.len()
 }
 
-// The len bytes of a text that begin at from.
+/// Appends the `len` bytes of a text that begin at `from`.
 pub fn append_part(text: &[u8], from: usize, len: usize, out: &mut [u8], at: usize) -> usize
     requires { (from + len ≤ length text.now) × (at + len < 2 ^ 64) }
-    ensures { Put out.old at (spelling text.now from len) out.new result }
+    ensures { Appended out.old at (spelling text.now from len) out.new result }
 {
     append_all(&text[from..from + len], out, at)
 }
 
-// The digits of n / 10, then the last one. (By hand: with `Display` a `fmt::Write` would be needed whose clauses say all this again.)
+/// Appends a number in decimal: the digits of `n / 10`, then the last one.
 pub fn append_decimal(n: usize, out: &mut [u8], at: usize) -> usize
     requires { at + 21 < 2 ^ 64 }
-    ensures { Put out.old at (decimal n) out.new result }
+    ensures { Appended out.old at (decimal n) out.new result }
 {
     if n < 10 {
         return append_byte(b'0' + n as u8, out, at);
@@ -49,26 +49,25 @@ pub fn append_decimal(n: usize, out: &mut [u8], at: usize) -> usize
     append_byte(b'0' + (n % 10) as u8, out, past)
 }
 
-// A space and the number, within a line: its words end at 118 at most.
+/// Appends a space and a number in decimal, within a line that tells a verdict, which has at most `line_words` bytes.
 pub fn append_number(n: usize, out: &mut [u8], at: usize) -> usize
-    requires { at ≤ 118 }
-    ensures wrote { Put out.old at (number n) out.new result }
+    requires { at ≤ line_words }
+    ensures wrote { Appended out.old at (number n) out.new result }
     ensures within { result ≤ at + 21 }
 {
     let past_space = append_byte(b' ', out, at);
     append_decimal(n, out, past_space)
 }
 
-// All of a text; within a line as above, so a caller says nothing of the text's length, which `append_all` asks.
+/// Appends all bytes of a text, of whatever length, within a line that tells a verdict or just behind it.
 pub fn append(text: &[u8], out: &mut [u8], at: usize) -> usize
-    requires { at ≤ 119 }
-    ensures { Put out.old at text.now out.new result }
+    requires { at ≤ line_words + 1 }
+    ensures { Appended out.old at text.now out.new result }
 {
     append_all(text, out, at)
 }
 
-// The position behind so many lines of a text. (By `for`: what `filter` and `nth` give of the line feeds is the last one's place, without the case of no
-// lines and that of too few.)
+/// The position behind the first `lines` lines of a text: 0 for no lines, and the text's length where it has fewer line feeds.
 pub fn past_lines(text: &[u8], lines: usize) -> usize
     ensures { result ≡ past_lines lines text.now }
 {

@@ -1,4 +1,4 @@
-// Bytes and words of a table: numbers packed into a word, words read and stored, what the bytes of a text say, bytes and numbers into a lent buffer.
+// Words of a table and bytes of a text: numbers packed into a word, words read and stored, what the bytes of a text say, bytes and numbers into a lent buffer.
 
 #![tactic(auto)]
 

@@ -1,5 +1,5 @@
-// Numbers packed into the words of a table, and each of them out of its word. Kinds (of `pack_marker`, `kind_of_item`) and marks (of `mark_number`,
-// `pack_mark`, `first_mark`) are numbers here and no enums, since a table is of words that the caller lends.
+// Numbers packed into the words of a table, and each of them out of its word. Kinds of items and marks are numbers, as they stand in the tables that a
+// caller lends.
 
 ghost use Rattle.std.specs.Prelude.{◌≡◌, ◌≤◌, ◌<◌, ◌^◌};
 ghost use Rattle.syntax.specs.Limits.{sheet_bytes};
@@ -11,7 +11,7 @@ ghost use Rattle.words.specs.Signs.{number_of_sign};
 
 use syntax::{FIRST_NAME, FREE, INPUT, ITEM_KINDS, LENGTHS, MARK_NUMBERS, OUTPUT, TokenKind};
 
-// A part of a text in one word (syntax/specs/Spans): its place and its length.
+/// A part of a text in one word: its place in bytes from 0 on, and its length (syntax/specs/Spans).
 pub fn pack_span(at: usize, len: usize) -> u32
     requires { (at ≤ sheet_bytes) × (len ≤ sheet_bytes) }
     ensures { result ≡ packed at len }
@@ -20,7 +20,7 @@ pub fn pack_span(at: usize, len: usize) -> u32
     w as u32
 }
 
-// The place of such a part.
+/// The place of a part of a text, by the word that packs it.
 pub fn span_at(word: u32) -> usize
     ensures { result ≡ span_at word }
 {
@@ -28,7 +28,7 @@ pub fn span_at(word: u32) -> usize
     w / LENGTHS
 }
 
-// Its length. (`run_layout::symbol_length` computes so too: each word is unpacked by the crate that packs it.)
+/// The length of a part of a text, by the word that packs it; a symbol's word (`run_layout::pack_symbol`) ends with a length too.
 pub fn span_length(word: u32) -> usize
     ensures { result ≡ span_length word }
 {
@@ -36,7 +36,7 @@ pub fn span_length(word: u32) -> usize
     w % LENGTHS
 }
 
-// A name's first word (syntax/specs/Words): its number of arguments and its length.
+/// The first word of a name's node: its number of arguments and its length (syntax/specs/Words).
 pub fn pack_functor(arguments: usize, len: usize) -> usize
     requires { functor arguments len < 2 ^ 32 }
     ensures { result ≡ functor arguments len }
@@ -44,7 +44,7 @@ pub fn pack_functor(arguments: usize, len: usize) -> usize
     FIRST_NAME + arguments * LENGTHS + len
 }
 
-// The number of arguments of a name, by its first word.
+/// The number of arguments of a name, by the first word of its node.
 pub fn arity_of(what: usize) -> usize
     requires { first_name ≤ what }
     ensures { result ≡ functor_arity what }
@@ -52,7 +52,7 @@ pub fn arity_of(what: usize) -> usize
     (what - FIRST_NAME) / LENGTHS
 }
 
-// Its length.
+/// The length of a name, by the first word of its node.
 pub fn length_of(what: usize) -> usize
     requires { first_name ≤ what }
     ensures { result ≡ functor_length what }
@@ -60,7 +60,7 @@ pub fn length_of(what: usize) -> usize
     (what - FIRST_NAME) % LENGTHS
 }
 
-// The word before a side of a bracket (syntax/specs/Words): its kind, and the number of items of the side.
+/// The word before a side of a bracket: its kind, and the number of items of the side (syntax/specs/Words).
 pub fn pack_marker(kind: usize, items: usize) -> usize
     requires { marker kind items < 2 ^ 32 }
     ensures { result ≡ marker kind items }
@@ -68,21 +68,21 @@ pub fn pack_marker(kind: usize, items: usize) -> usize
     kind + ITEM_KINDS * items
 }
 
-// The kind of an item, by its first word.
+/// The kind of an item, by its first word.
 pub fn kind_of_item(word: usize) -> usize
     ensures { result ≡ item_kind word }
 {
     word % ITEM_KINDS
 }
 
-// The number of items of the side behind such a word.
+/// The number of items of a side of a bracket, by the word before it.
 pub fn items_of_side(word: usize) -> usize
     ensures { result ≡ side_items word }
 {
     word / ITEM_KINDS
 }
 
-// The number of the mark that a token of a kind is, if it is one.
+/// The number of the mark that a token of this kind is; none where it is no mark.
 pub fn mark_number(kind: TokenKind) -> Option<usize>
     ensures { result ≡ number_of_sign (sign_of kind) }
 {
@@ -94,7 +94,7 @@ pub fn mark_number(kind: TokenKind) -> Option<usize>
     }
 }
 
-// The numbers of marks in one (syntax/specs/Words): the first mark's, and that of the others.
+/// The marks of a list in one number, by the first one's number and that of the others (syntax/specs/Words).
 pub fn pack_mark(mark: usize, others: usize) -> usize
     requires { with_mark mark others < 2 ^ 32 }
     ensures { result ≡ with_mark mark others }
@@ -102,14 +102,14 @@ pub fn pack_mark(mark: usize, others: usize) -> usize
     mark + MARK_NUMBERS * others
 }
 
-// The first of such marks. Where there is none it is 0, since the word is 0 then: its callers compare it with one mark's number.
+/// The first of the marks in one number, by its own number; 0 where there is none, which is no mark's number.
 pub fn first_mark(marks: usize) -> usize
     ensures { result ≡ first_mark marks }
 {
     marks % MARK_NUMBERS
 }
 
-// The others.
+/// The marks behind the first, in one number; 0 where there are none.
 pub fn other_marks(marks: usize) -> usize
     ensures { result ≡ other_marks marks }
 {

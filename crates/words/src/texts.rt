@@ -1,25 +1,24 @@
 // What the bytes of a text say at a place: one of them, whether two parts are the same, whether a name is `true`, `fail` or `mode`, whether a variable
-// is `_`, and which digits of a numeral count. A part of a text is the text, its first byte and its length, as in
-// the definition `spelling`: the contracts of callers are over places of the whole text.
+// is `_`, and which digits of a numeral count. A part of a text is given by the text, its first byte and its length, as in the definition `spelling`.
 
 ghost use Rattle.std.specs.Prelude.{◌≡◌, ◌+◌, ◌≤◌, length, get_or, take, drop, eqb, not};
 ghost use Rattle.std.specs.List.{position};
-ghost use Rattle.syntax.specs.Numerals.{dropped, zero_digit};
+ghost use Rattle.syntax.specs.Numerals.{dropped};
 ghost use Rattle.syntax.specs.Reading.{is_anonymous};
 ghost use Rattle.syntax.specs.Terms.{same_bytes, same_name, true_name, fail_name, mode_name};
 ghost use Rattle.syntax.specs.Tokens.{spelling};
 
 use syntax::Token;
 
-// The byte at a position, 0 past the end. (No Option: a caller compares it with one byte that is not 0, which is then not that of the end either.)
+/// The byte at a position, and 0 past the end. Callers compare it with a byte that is not 0.
 pub fn byte_at(s: &[u8], i: usize) -> u8
     ensures { result ≡ get_or s.now i 0 }
 {
     s.get(i).copied().unwrap_or(0)
 }
 
-// Whether the `n` bytes of `s` from `a` on and those of `t` from `b` on are the same. Byte by byte, the last one first: with a comparison of the two slices,
-// reading and checking a full sheet of rules takes 12,815,459 instructions in place of 9,859,413, and 9,825,330 at commit 3e725cc8.
+/// Whether the `n` bytes of `s` from `a` on and those of `t` from `b` on are the same. Byte by byte, the last one first, since names often begin alike: this
+/// decides the speed of reading.
 pub fn same_bytes(s: &[u8], a: usize, t: &[u8], b: usize, n: usize) -> bool
     requires { (a + n ≤ length s.now) × (b + n ≤ length t.now) }
     ensures { result ≡ same_bytes (take n (drop a s.now)) (take n (drop b t.now)) }
@@ -32,7 +31,7 @@ pub fn same_bytes(s: &[u8], a: usize, t: &[u8], b: usize, n: usize) -> bool
     true
 }
 
-// Whether a name is the one of these bytes.
+// Whether the name of `len` bytes at `at` is `name`.
 #[tactic(auto, using(crate::proofs::TextsLaws::same_as))]
 fn is_name(s: &[u8], at: usize, len: usize, name: &[u8]) -> bool
     requires { at + len ≤ length s.now }
@@ -41,8 +40,7 @@ fn is_name(s: &[u8], at: usize, len: usize, name: &[u8]) -> bool
     &s[at..at + len] == name
 }
 
-// Whether it is one of the three names that RULES uses itself. (Each is `is_name` of one name, and says which of the definitions `true_name`,
-// `fail_name` and `mode_name` that is.)
+/// Whether the name of `len` bytes at `at` is `true`.
 pub fn is_true(s: &[u8], at: usize, len: usize) -> bool
     requires { at + len ≤ length s.now }
     ensures { result ≡ same_name (spelling s.now at len) true_name }
@@ -50,6 +48,7 @@ pub fn is_true(s: &[u8], at: usize, len: usize) -> bool
     is_name(s, at, len, b"true")
 }
 
+/// Whether the name of `len` bytes at `at` is `fail`.
 pub fn is_fail(s: &[u8], at: usize, len: usize) -> bool
     requires { at + len ≤ length s.now }
     ensures { result ≡ same_name (spelling s.now at len) fail_name }
@@ -57,6 +56,7 @@ pub fn is_fail(s: &[u8], at: usize, len: usize) -> bool
     is_name(s, at, len, b"fail")
 }
 
+/// Whether the name of `len` bytes at `at` is `mode`.
 pub fn is_mode(s: &[u8], at: usize, len: usize) -> bool
     requires { at + len ≤ length s.now }
     ensures { result ≡ same_name (spelling s.now at len) mode_name }
@@ -64,7 +64,7 @@ pub fn is_mode(s: &[u8], at: usize, len: usize) -> bool
     is_name(s, at, len, b"mode")
 }
 
-// Whether a token is `_` alone.
+/// Whether a token is `_` alone, which is a new variable each time.
 #[tactic(auto, unfolding(syntax::specs::Reading::is_anonymous))]
 pub fn is_anonymous(s: &[u8], t: Token) -> bool
     ensures { result ≡ is_anonymous s.now t }
@@ -72,14 +72,14 @@ pub fn is_anonymous(s: &[u8], t: Token) -> bool
     t.len == 1 && byte_at(s, t.at) == b'_'
 }
 
-// Where the first byte stands that is no zero. (`trace::scans` has the same of another byte: each is one call of the library.)
-fn first_other(s: &[u8]) -> Option<usize>
-    ensures { result ≡ position (λ b. not (eqb b zero_digit)) s.now }
+/// Where the first byte stands that is another than this one.
+pub fn first_other(s: &[u8], byte: u8) -> Option<usize>
+    ensures { result ≡ position (λ b. not (eqb b byte)) s.now }
 {
-    s.iter().position(|&b| b != b'0')
+    s.iter().position(|&b| b != byte)
 }
 
-// The byte of the first digit that a numeral keeps: leading zeros are dropped, but never its last digit.
+/// The place of the first digit that the numeral of `len` bytes at `at` keeps: leading zeros are dropped, but never its last digit (REQUESTS (iii)).
 pub fn first_kept(s: &[u8], at: usize, len: usize) -> usize
     requires { at + len ≤ length s.now }
     ensures { result ≡ at + dropped (spelling s.now at len) }
@@ -89,5 +89,5 @@ pub fn first_kept(s: &[u8], at: usize, len: usize) -> usize
     }
     let last = at + len - 1;
     let before_last = &s[at..last];
-    at + first_other(before_last).unwrap_or(before_last.len())
+    at + first_other(before_last, b'0').unwrap_or(before_last.len())
 }

@@ -11,6 +11,7 @@ const UPPER: Class = Class::Upper;
 
 const DIGIT: Class = Class::Digit;
 
+/// The class of the byte of each number from 0 to 255; those past ASCII begin no token.
 pub static CLASSES: [Class; 256] = [
     NOTHING,
     NOTHING,

@@ -34,7 +34,7 @@ fn copy_nodes(
     q
 }
 
-// The nodes of so many items from a place on. The words of brackets have none.
+/// Copies the nodes of so many items to place `at` and gives the place past the copies. The words of brackets have no nodes.
 pub fn copy_body(
     table: &[u32],
     from: usize,
@@ -77,7 +77,7 @@ fn copy_clause(table: &[u32], p: usize, nodes: &mut [u32], at: usize) -> usize
     copy_body(table, body, items, Source::Sheet, nodes, q)
 }
 
-// The nodes of so many clauses.
+/// Copies the nodes of so many clauses to place `at` and gives the place past the copies.
 pub fn copy_clauses(table: &[u32], clauses: usize, nodes: &mut [u32], at: usize) -> usize
     requires table_len_bound { (length table.now ≤ program_words) × ((nodes_words ≤ length nodes.old) × (at * node_words ≤ goal_words * loaded_node)) }
     requires clauses_here { ClausesHere table.now 0 clauses }

@@ -35,7 +35,7 @@ fn number_node(
     counted(count, k)
 }
 
-// All copied nodes up to a place with their symbols' numbers.
+/// Gives each copied name, up to a place, its symbol's number, lists the symbols, and says how many there are.
 pub fn number_nodes(texts: Texts, nodes: &mut [u32], stop: usize, symbols: &mut [u32]) -> usize
     requires nodes_words_in_bounds { (nodes_words ≤ length symbols.old) × (stop ≤ nodes_words) }
     requires copied { Copied texts.sheet.now texts.goal.now nodes.old stop }

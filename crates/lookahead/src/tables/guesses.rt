@@ -11,7 +11,7 @@ use syntax::FIRST_NAME;
 // A walk along a chain of variables stops after so many links, and makes a short cut.
 const STRIDE: usize = 16;
 
-// Where a walk has come to, and how many turns are left. No sum that is made of the place wraps.
+/// Where a walk has come to, and how many turns are left. No sum that is made of the place wraps.
 #[derive(Clone, Copy)]
 pub struct Led {
     pub at: At,
@@ -20,8 +20,7 @@ pub struct Led {
     pub ghost in_copies: { at.copy < copies },
 }
 
-// What a look ahead reads and never writes: the loaded nodes, and the state with the bindings that there are. (The room is a parameter beside it: it is
-// written, and a struct with a `&mut` field would have each function promise that it is still the same reference.)
+/// What a look ahead reads and never writes: the loaded nodes, and the state with the bindings that there are.
 #[derive(Clone, Copy)]
 pub struct Tables<'a> {
     pub nodes: &'a [u32],
@@ -29,7 +28,7 @@ pub struct Tables<'a> {
 }
 
 impl<'a> Tables<'a> {
-    // How many words the node at p takes with its arguments; never none.
+    /// How many words the node at p takes with its arguments; never none.
     pub fn size_of(self, p: usize) -> usize
         requires { Small p }
         ensures { (loaded_node ≤ result) × Word result }
@@ -37,7 +36,7 @@ impl<'a> Tables<'a> {
         get(self.nodes, p + 1).max(LOADED_NODE)
     }
 
-    // The word that cell x is bound to, or will be by the first n guesses.
+    /// The word that cell x is bound to, or will be by the first n guesses.
     pub fn bound_word(self, room: &[u32], n: usize, x: usize) -> Option<usize>
         requires { Small x }
         ensures { IfSome result (λ w. (0 < w) × Word w) }
@@ -57,7 +56,7 @@ impl<'a> Tables<'a> {
         self.bound_word(room, GUESSES.count(room), x)
     }
 
-    // Where a term leads, by at most so many links. Each costs a turn.
+    /// Where a term leads, by at most so many links. Each costs a turn.
     pub fn lead(self, room: &mut [u32], from: At, turns: usize) -> Led
         requires { (IsPlace from.node) × (from.copy < copies) }
         ensures bounded { result.left ≤ turns }

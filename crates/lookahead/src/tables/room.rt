@@ -10,41 +10,43 @@ const WORD_LIMIT: usize = 1 << 32;
 // By which the copies of a node are set apart where a slot is chosen.
 const COPY_SPREAD: usize = 97;
 
-// Rows of terms, while the guess is made.
+/// Rows of terms, while the guess is made.
 pub const WORK: usize = 0;
 
-// Then, in the same place: the list of the sorted cells, for each cell its place in the list, and for each place how far the cell's term was read. (Whoever
-// takes the list wants its words side by side, so what is told of a place stands apart.)
+/// The list of the sorted cells, where the rows were: its words stand side by side, since `look_ahead` hands them on.
 pub const LIST: usize = WORK;
 
+/// For each cell its place in the list.
 pub const PLACE_OF: usize = LIST + CELLS;
 
+/// For each place of the list how far the cell's term was read.
 pub const REACHED: usize = PLACE_OF + CELLS;
 
 // A map's entry: a key and a value.
 const ENTRY_SIZE: usize = 2;
 
-// The guessed word of a cell.
+/// The guessed word of a cell.
 pub const GUESSES: Map = Map {
     at: GUESSES_AT,
     slots: CELLS,
 };
 
-// A short cut from a cell.
+/// A short cut from a cell.
 pub const CUTS: Map = Map {
     at: CUTS_AT,
     slots: CELLS,
 };
 
-// Pairs of words that were met.
+/// Pairs of words that were met.
 pub const MET: Map = Map {
     at: MET_AT,
     slots: MET_COUNT,
 };
 
+/// The slots of `MET`, and of the words that are sorted.
 pub const MET_COUNT: usize = 4096;
 
-// Where the slots of pairs were: for a word the place in the list of a cell that is bound to it.
+/// Where the slots of pairs were: for a word the place in the list of a cell that is bound to it.
 pub const SORTED: usize = MET_AT + 1;
 
 const GUESSES_AT: usize = REACHED + CELLS;
@@ -53,14 +55,14 @@ const CUTS_AT: usize = GUESSES_AT + 1 + CELLS + CELLS * ENTRY_SIZE;
 
 const MET_AT: usize = CUTS_AT + 1 + CELLS + CELLS * ENTRY_SIZE;
 
-// The word at a place. Behind the last it is 0, as where a table has nothing, since nothing is asked of the length of what is lent.
+/// The word at a place, or 0 behind the last, as where a table has nothing: nothing is asked of the length of what is lent.
 pub fn get(t: &[u32], i: usize) -> usize
     ensures { (result ≡ get_or t.now i 0) × Word result }
 {
     t.get(i).copied().unwrap_or(0) as usize
 }
 
-// A word stored at a place, unless it is behind the last.
+/// A word stored at a place, unless it is behind the last.
 pub fn put(t: &mut [u32], i: usize, w: usize)
     ensures { t.new ≡ set t.old i (w % 2 ^ 32) }
 {
@@ -69,29 +71,29 @@ pub fn put(t: &mut [u32], i: usize, w: usize)
     }
 }
 
-// A word that a table has for something: the words of a table are numbers, and 0 is the one for nothing.
+/// A word that a table has for something: the words of a table are numbers, and 0 is the one for nothing.
 pub fn some_word(w: usize) -> Option<usize>
     ensures { result ≡ (if w == 0 then None else Some w) }
 {
     if w == 0 { None } else { Some(w) }
 }
 
-// What is left of so many turns after one that took the work of so many more.
+/// What is left of so many turns after one that took the work of so many more.
 pub fn rest(turns: usize, more: usize) -> usize
     ensures { result ≡ turns - more - 1 }
 {
     turns.saturating_sub(more).saturating_sub(1)
 }
 
-// A number for a word, for the choice of a slot.
+/// A number for a word, for the choice of a slot.
 pub fn hash_of(w: usize) -> usize
     ensures { result < 2 ^ 56 }
 {
     w / COPIES / LOADED_NODE + w % COPIES * COPY_SPREAD
 }
 
-// A map from a place of the room on: the number of entries, slots, and as many entries, each a key and a value. Slots are never cleared, since an entry names
-// its key. All maps fit into the room that a short sheet leaves; where there is less, what does not fit is not found again.
+/// A map from a place of the room on: the number of entries, slots, and as many entries, each a key and a value. Slots are never cleared, since an entry names
+/// its key. All maps fit into the room that a short sheet leaves; where there is less, what does not fit is not found again.
 #[derive(Clone, Copy)]
 pub struct Map {
     pub at: usize,
@@ -100,21 +102,21 @@ pub struct Map {
 }
 
 impl Map {
-    // How many entries it has.
+    /// How many entries it has.
     pub fn count(self, room: &[u32]) -> usize
         ensures { (result ≡ get_or room.now self.at 0) × Word result }
     {
         get(room, self.at)
     }
 
-    // It has no entries from then on.
+    /// Empties it.
     pub fn clear(self, room: &mut [u32])
         ensures { room.new ≡ set room.old self.at 0 }
     {
         put(room, self.at, 0);
     }
 
-    // Where entry i stands.
+    /// Where entry i stands.
     pub fn entry(self, i: usize) -> usize
         requires { Small i }
         ensures { result ≡ self.at + 1 + self.slots + i * 2 }
@@ -122,7 +124,7 @@ impl Map {
         self.at + 1 + self.slots + i * ENTRY_SIZE
     }
 
-    // The value of a key among the first n entries; no entry has the value 0.
+    /// The value of a key among the first n entries; no entry has the value 0.
     pub fn find(self, room: &[u32], n: usize, slot: usize, key: usize) -> Option<usize>
         requires { Small slot }
         ensures { IfSome result (λ w. (0 < w) × Word w) }
@@ -138,7 +140,7 @@ impl Map {
         some_word(get(room, at + 1))
     }
 
-    // One entry more. A map that is full begins anew.
+    /// Adds an entry. A map that is full begins anew, without it.
     pub fn add(self, room: &mut [u32], slot: usize, key: usize, value: usize)
         requires { Small slot }
         ensures { length room.new ≡ length room.old }

@@ -1,9 +1,9 @@
-// The clauses of a sheet, by its declarations.
+// Refusals 9 and 10 of the clauses of a sheet, by its declarations.
 ghost use Rattle.std.specs.Prelude.{◌≡◌, ◌+◌};
 ghost use Rattle.mode_rules.specs.Modes.{clause_fault, clauses_fault};
 ghost use Rattle.marks.specs.Tables.{ClausesAt};
 ghost use Rattle.marks.specs.Answers.{checked_of};
-ghost use Rattle.marks.specs.Stand.{Stand, ClauseIn};
+ghost use Rattle.marks.specs.InTables.{DeclarationsIn, ClauseIn};
 
 use crate::arguments::{ground_marked, head_fault};
 use crate::bodies::body_walk;
@@ -11,10 +11,10 @@ use crate::declarations::{ClauseCheck, Declarations, ReadText};
 use syntax::{CLAUSE_START, INPUT, NODE_WORDS, Refusal, VARIABLES};
 use words::tables::{CLAUSE_ITEMS, past, past_clause, word_at};
 
-// One clause: the first fault along its body, then that of its head.
+// The clause at `p`: the first fault along its body, then that of its head.
 fn clause_fault(check: ClauseCheck<'_>, p: usize) -> Result<(), Refusal>
     requires { ClauseIn check.read p }
-    ensures { (d : Stand check.entry.declarations) (w : ClauseIn check.entry.read p) → result
+    ensures { (d : DeclarationsIn check.entry.declarations) (w : ClauseIn check.entry.read p) → result
         ≡ checked_of (clause_fault d.list check.entry.clause w.clause) }
 {
     let table = check.read.table;
@@ -28,16 +28,14 @@ fn clause_fault(check: ClauseCheck<'_>, p: usize) -> Result<(), Refusal>
     head_fault(table, head, marks, known, check.clause)
 }
 
-// The first fault of the clauses in turn. `marks::undeclared::undeclared_clauses` goes along clauses in this way too; one walk for both would hand on,
-// besides what is done with a clause, the declaration that its heads are near to, of which there is nothing here. (Declarations, table and number of
-// clauses: as at `marks::sheets::check_sheet`.)
+/// The first of refusals 9 and 10 among the clauses in turn, which stand in the table from place 0 on and have the numbers from 1 on.
 pub fn clauses_fault(
     declarations: Declarations<'_>,
     table: &[u32],
     clauses: usize,
 ) -> Result<(), Refusal>
     requires { ClausesAt declarations.text.now table.now 0 clauses }
-    ensures { (d : Stand declarations.entry) (w : ClausesAt declarations.entry.text.now table.now 0 clauses) → result
+    ensures { (d : DeclarationsIn declarations.entry) (w : ClausesAt declarations.entry.text.now table.now 0 clauses) → result
         ≡ checked_of (clauses_fault d.list 1 w.list) }
 {
     let mut at = 0;

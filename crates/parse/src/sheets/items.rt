@@ -1,4 +1,4 @@
-// Sheets and goals.
+// The items of a sheet one after another, and goals.
 ghost use Rattle.std.specs.Prelude.{◌≡◌, ◌+◌, ◌-◌, ◌*◌, ◌≤◌, ◌<◌, ◌^◌, length};
 ghost use Rattle.syntax.specs.Limits.{sheet_bytes, variables, declarations, clauses};
 ghost use Rattle.syntax.specs.Tokens.{token_at, name_kind};
@@ -13,7 +13,7 @@ use crate::clauses::{read_clause, read_whole};
 use crate::cursor::{beyond, wrong};
 use crate::declarations::read_declaration;
 use crate::sheets::{SheetFault, SheetParsed};
-use syntax::{CLAUSES, DECLARATION_SIZE, DECLARATIONS, Refusal, State, TokenKind};
+use syntax::{CLAUSES, DECLARATION_SIZE, DECLARATIONS, ParserState, Refusal, TokenKind};
 
 const NOTHING_READ: SheetParsed = SheetParsed {
     declarations: 0,
@@ -21,13 +21,13 @@ const NOTHING_READ: SheetParsed = SheetParsed {
     used: 0,
 };
 
-// The reader at a text's first token.
-pub fn start(s: &[u8]) -> State
+/// The reader at a text's first token, with no variable and no literal met.
+pub fn start(s: &[u8]) -> ParserState
     requires { length s.now ≤ sheet_bytes }
     ensures is { result ≡ record { token = token_at s.now 0; count = 0; literals = 0 } }
     ensures stands { CursorInside s.now result }
 {
-    State {
+    ParserState {
         token: lex::tokens::token_at(s, 0),
         count: 0,
         literals: 0,
@@ -35,7 +35,12 @@ pub fn start(s: &[u8]) -> State
 }
 
 // A declaration behind `ds` others.
-fn next_declaration(s: &[u8], st: State, declared: &mut [u32], ds: usize) -> Result<Parsed, Refusal>
+fn next_declaration(
+    s: &[u8],
+    st: ParserState,
+    declared: &mut [u32],
+    ds: usize,
+) -> Result<Parsed, Refusal>
     requires cursor_inside { CursorInside s.now st }
     requires ds_le_declarations { (ds ≤ declarations) × (declared_words ≤ length declared.old) }
     ensures { DeclarationGives s.now st declared.old declared.new (declaration_size * ds) result
@@ -50,7 +55,7 @@ fn next_declaration(s: &[u8], st: State, declared: &mut [u32], ds: usize) -> Res
 // A clause behind `cs` others.
 fn next_clause(
     s: &[u8],
-    st: State,
+    st: ParserState,
     table: &mut [u32],
     used: usize,
     cs: usize,
@@ -73,8 +78,7 @@ fn fault_behind(before: SheetParsed, refusal: Refusal) -> SheetFault
     SheetFault { refusal, before }
 }
 
-// Items up to the end of the text. (By `match`: from an arm the proof goes on with what was read, where behind a `map_err` a law would have to lead back to
-// it.)
+/// A sheet: its declarations into one table and its clauses into another, up to the end of the text or the first fault.
 pub fn read_items(
     s: &[u8],
     declared: &mut [u32],
@@ -86,7 +90,7 @@ pub fn read_items(
 {
     let mut st = start(s);
     let mut read = NOTHING_READ;
-    // Where an item begins is known only when the one before it was read, so no iterator gives them.
+    // Where an item begins is known only when the one before it was read.
     while st.token.kind != TokenKind::End {
         if st.token.kind == TokenKind::Neck {
             match next_declaration(s, st, declared, read.declarations) {
@@ -113,7 +117,7 @@ pub fn read_items(
     Ok(read)
 }
 
-// A goal into a node table of a node's words for each byte, one more and those of the variables, with refusals 3 to 6.
+/// A goal: the items of its body into a node table, which has a node's words for each byte of the text, one word more and one for each variable.
 pub fn read_goal(s: &[u8], table: &mut [u32]) -> Result<Parsed, Refusal>
     requires s_len_bound { length s.now ≤ sheet_bytes }
     requires variables_in_bounds { (node_words * length s.now + 1 + variables ≤ length table.old) × (length table.old < 2 ^ 31) }

@@ -1,4 +1,4 @@
--- `pilvaust::entry` meets its contract: each way out is a law of `Entries`. Assumes nothing.
+-- `pilvaust::entry` meets its contract: each way out is a law of `ReadingEntries`. Assumes nothing.
 use Rattle.pilvaust.proofs.ReadingEntries.{entries-long, entry-is, entry-refused}
 use Rattle.pilvaust.proofs.entry.Goals as goal
 

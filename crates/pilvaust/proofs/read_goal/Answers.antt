@@ -1,4 +1,4 @@
--- `pilvaust::read_goal` meets its contract: each way out is a law of `Entries`. Assumes nothing.
+-- `pilvaust::read_goal` meets its contract: each way out is a law of `ReadingEntries`. Assumes nothing.
 use Rattle.std.proofs.Common.{ap, sym, ◌∙◌}
 use Rattle.std.proofs.lemmas.Result.{err_from_is_err_and}
 use Rattle.pilvaust.proofs.ReadingEntries.{verdict_of, goal-verdict}

@@ -1,8 +1,8 @@
 // A clause tried for a call that the top alternative stands at.
 ghost use Rattle.std.specs.Prelude.{◌-◌};
-ghost use Rattle.run.specs.Moves.{Tryable, Comes};
+ghost use Rattle.run.specs.Moves.{Tryable, ClauseTried};
 
-use crate::alternatives::Pile;
+use crate::alternatives::PileHeight;
 use crate::alternatives::laying::lay;
 use crate::alternatives::records::{Spot, put_frame, top_at};
 use load::records::Compiled;
@@ -11,17 +11,17 @@ use run_layout::terms::At;
 use unify::solve::unify_closed;
 use words::tables::word_at;
 
-// The clause of number k tried, as the copy one past the path; where its head unifies, its body is laid on top.
+/// Tries clause `k` for the call at the top, as the copy one past its path; where the head unifies, the body is laid on top.
 pub fn try_clause(
     program: Compiled,
     state: &mut [u32],
     scratch: &mut [u32],
     h: usize,
     k: usize,
-) -> Pile
+) -> PileHeight
     requires { Tryable program.nodes.now program.code.now state.old scratch.old h (h - 1) k }
     ensures { (w : Tryable program.entry.nodes.now program.entry.code.now state.old scratch.old h (h - 1) k)
-        → Comes w state.new scratch.new result }
+        → ClauseTried w state.new scratch.new result }
 {
     let j = h - 1;
     let s = top_at(state, j);
@@ -50,10 +50,10 @@ pub fn try_clause(
             literal: body,
         };
         lay(program.code, state, h, first, trail, new);
-        return Pile {
+        return PileHeight {
             height: h + 1,
             trail,
         };
     }
-    Pile { height: h, trail }
+    PileHeight { height: h, trail }
 }

@@ -4,7 +4,7 @@ ghost use Rattle.syntax.specs.Words.{equation_kind};
 ghost use Rattle.run_layout.specs.Pile.{mark_at};
 ghost use Rattle.run.specs.Steps.{Steppable, AtTop, TopStepped};
 
-use crate::alternatives::Pile;
+use crate::alternatives::PileHeight;
 use crate::alternatives::laying::lay;
 use crate::alternatives::records::{Spot, Top, top_at};
 use crate::brackets::work_either;
@@ -16,14 +16,14 @@ use syntax::{CALL_KIND, EQUATION_KIND, TRUTH_KIND};
 use unify::solve::unify;
 use words::tables::word_at;
 
-// An equation: unified, the literal goes; else the alternative.
+// Works on the top alternative at an equation: where the sides unify, the literal goes, else the alternative.
 fn work_equation(
     program: Compiled,
     state: &mut [u32],
     scratch: &mut [u32],
     h: usize,
     s: Top,
-) -> Pile
+) -> PileHeight
     requires { AtTop equation_kind program.nodes.now program.code.now state.old scratch.old h s }
     ensures { TopStepped program.entry.nodes.now program.entry.code.now state.old state.new scratch.old scratch.new h result }
 {
@@ -47,13 +47,14 @@ fn work_equation(
             literal: next_literal(l),
         };
         lay(program.code, state, j, rest, trail, s.path);
-        return Pile { height: h, trail };
+        return PileHeight { height: h, trail };
     }
-    Pile { height: j, trail }
+    PileHeight { height: j, trail }
 }
 
-// By the literal: `fail` and a goal's end leave the pile below. The kinds are words of the code, so they are compared as numbers.
-pub fn work(program: Compiled, state: &mut [u32], scratch: &mut [u32], h: usize) -> Pile
+/// Works on the top alternative by the kind of its literal. At `fail` and where no literal is left, the alternative goes. Kinds are compared as numbers, as the
+/// code holds them.
+pub fn work(program: Compiled, state: &mut [u32], scratch: &mut [u32], h: usize) -> PileHeight
     requires { Steppable program.nodes.now program.code.now state.old scratch.old h (mark_at state.old (h - 1)) }
     ensures { TopStepped program.entry.nodes.now program.entry.code.now state.old state.new scratch.old scratch.new h result }
 {
@@ -77,7 +78,7 @@ pub fn work(program: Compiled, state: &mut [u32], scratch: &mut [u32], h: usize)
             literal: next_literal(l),
         };
         lay(program.code, state, j, rest, trail, s.path);
-        return Pile { height: h, trail };
+        return PileHeight { height: h, trail };
     }
-    Pile { height: j, trail }
+    PileHeight { height: j, trail }
 }

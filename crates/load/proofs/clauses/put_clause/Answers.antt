@@ -1,4 +1,4 @@
--- `load::programs::clauses::put_clause` meets its contract. Assumes nothing.
+-- `load::clauses::put_clause` meets its contract. Assumes nothing.
 use Rattle.load.proofs.ClausesLaws.{head-inside, clause-search, clause-small, clause-inside, head-fits, head-node-fits, body-small, pair-ready, body-ready, clause-put}
 use native.Mathlib.Omega.{arith}
 use Rattle.load.proofs.clauses.put_clause.Goals as goal

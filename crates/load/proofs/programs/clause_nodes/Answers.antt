@@ -1,4 +1,4 @@
--- `load::programs::clauses::clause_nodes` meets its contract. Assumes nothing.
+-- `load::programs::clause_nodes` meets its contract. Assumes nothing.
 use mathlib.Core.List.{[]}
 use Rattle.load.proofs.ClausesSizes.{says}
 use Rattle.load.proofs.ProgramsSizes.{clause-marks, clause-size}

@@ -1,4 +1,4 @@
--- `load::programs::clauses::put_clauses` meets its contract. The invariant: what is left of the clauses makes the whole (`ClausesAhead`). Assumes nothing.
+-- `load::programs::put_clauses` meets its contract. The invariant: what is left of the clauses makes the whole (`ClausesAhead`). Assumes nothing.
 use mathlib.Core.List.{List}
 use Rattle.syntax.specs.Terms.{Clause}
 use Rattle.run_layout.specs.Regions.{clause_bodies}

@@ -1,4 +1,4 @@
--- `load::programs::clauses::put_heads` meets its contract. The invariant: what is left of the heads makes the whole (`HeadsAhead`). Assumes nothing.
+-- `load::programs::put_heads` meets its contract. The invariant: what is left of the heads makes the whole (`HeadsAhead`). Assumes nothing.
 use mathlib.Core.List.{List}
 use Rattle.syntax.specs.Terms.{Clause}
 use Rattle.run_layout.specs.Nodes.{Symbol}

@@ -1,10 +1,10 @@
--- The four functions of `bodies` that walk along literals meet their contracts. Each is measured by the words from its place on. Assumes nothing.
+-- The four functions of `marks::bodies` that walk along literals meet their contracts. Each is measured by the words from its place on. Assumes nothing.
 use Prim.Native.Nat.{◌≤◌, ◌+◌, ◌-◌, ◌*◌}
 use lib.ListN.{length}
 use Rattle.syntax.specs.Terms.{literals_of}
 use Rattle.syntax.specs.Words.{body_words}
 use Rattle.mode_rules.specs.Modes.{body_fault}
-use Rattle.marks.specs.Stand.{Stand, BodyIn}
+use Rattle.marks.specs.InTables.{DeclarationsIn, BodyIn}
 use Rattle.marks.proofs.Walking.{Ahead}
 use Rattle.marks.proofs.bodies.+either_walk_literal_walk_literals_walk_side_walk.Given as goal
 
@@ -22,7 +22,7 @@ decreases-side_walk l = 4 * (length l.check.read.table.now - l.p)
 
 abbrev pub invariant-literals_walk-loop-i : goal.invariant-literals_walk-loop-i
 invariant-literals_walk-loop-i l =
-    (l.i ≤ l.items) × (l.p ≤ l.at) × (l.number ≤ l.at + 1) × ((d : Stand l.check.declarations) (w : BodyIn l.check.read l.p l.items)
+    (l.i ≤ l.items) × (l.p ≤ l.at) × (l.number ≤ l.at + 1) × ((d : DeclarationsIn l.check.declarations) (w : BodyIn l.check.read l.p l.items)
     → Ahead d.list l.check.clause l.check.read.text.now l.check.read.table.now l.at l.i l.items l.number l.flags (body_fault d.list l.check.clause l.literal l.initial.flags w.body) (l.p + length (body_words w.body)) (literals_of w.body + l.literal))
 
 abbrev pub decreases-literals_walk-loop-i : goal.decreases-literals_walk-loop-i

@@ -1,4 +1,4 @@
--- `bodies::body_walk` meets its contract. Assumes nothing.
+-- `marks::bodies::body_walk` meets its contract. Assumes nothing.
 use native.Mathlib.Omega.{arith}
 use mathlib.Core.Path.{sym, ap, ◌∙◌}
 use Rattle.std.proofs.lemmas.Result.{err_from_is_err_and}

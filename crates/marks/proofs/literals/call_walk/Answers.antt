@@ -1,4 +1,4 @@
--- `literals::call_walk` meets its contract. Assumes nothing.
+-- `marks::literals::call_walk` meets its contract. Assumes nothing.
 use Rattle.marks.proofs.Places.{node-inside, past-ends}
 use native.Mathlib.Omega.{arith}
 use Rattle.std.proofs.lemmas.Result.{err_from_is_err_and}

@@ -1,4 +1,4 @@
--- `literals::plain_walk` meets its contract. Assumes nothing.
+-- `marks::literals::plain_walk` meets its contract. Assumes nothing.
 use Rattle.marks.proofs.Places.{node-inside, past-ends}
 use native.Mathlib.Omega.{arith}
 use Rattle.mode_rules.specs.Modes.{everything}

@@ -1,4 +1,4 @@
--- `marks::sheets::check_sheet` meets its contract: each way out is a law of `Laws`. Assumes nothing.
+-- `marks::sheets::check_sheet` meets its contract: each way out is a law of `SheetsLaws`. Assumes nothing.
 use Rattle.std.proofs.lemmas.Result.{err_from_is_err_and}
 use Rattle.marks.proofs.ClausesSheets.{sheet-clauses}
 use Rattle.marks.proofs.SheetsLaws.{undeclared-first, unwritten-next, marks-last}

@@ -1,4 +1,4 @@
--- `marks::sheets::first_unwritten` meets its contract: each way out is a law of `Laws`. Assumes nothing.
+-- `marks::sheets::first_unwritten` meets its contract: each way out is a law of `SheetsLaws`. Assumes nothing.
 use Rattle.marks.specs.Flags.{StandOnce}
 use Rattle.marks.proofs.SheetsLaws.{Decides}
 use Rattle.marks.proofs.sheets.first_unwritten.Given as goal

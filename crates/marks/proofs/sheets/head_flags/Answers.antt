@@ -8,7 +8,7 @@ use Rattle.std.specs.Prelude.{Option}
 use Rattle.syntax.specs.Limits.{declarations}
 use Rattle.marks.proofs.UndeclaredClauses.{clause-words, clause-room, head-at}
 use Rattle.marks.proofs.ClausesSheets.{sheet-declarations}
-use Rattle.marks.specs.Flags.{is_place, Finds}
+use Rattle.marks.specs.Flags.{is_place, OnlyDeclaration}
 use Rattle.marks.proofs.Heads.{begun, here, flag-set, flagged-on, all-flagged}
 use Rattle.marks.proofs.sheets.head_flags.Goals as goal
 use Rattle.marks.proofs.sheets.head_flags.Goals.{in-Some, in_default}
@@ -19,12 +19,12 @@ loop-clause-init c = (omega arith, λ w. begun 64 w.stands)
 pub overflow_add-head : goal.overflow_add-head
 overflow_add-head c = omega (arith, clause-room (here c.loop-clause-test.true (c.loop-clause.invariant.1 c.requires)).clause)
 
-pub head_declaration-requires : goal.head_declaration-requires
-head_declaration-requires c = head-at (here c.loop-clause-test.true (c.loop-clause.invariant.1 c.requires)).clause
+pub find_near-requires : goal.find_near-requires
+find_near-requires c = head-at (here c.loop-clause-test.true (c.loop-clause.invariant.1 c.requires)).clause
 
 pub bounds-flags-found : goal.bounds-flags-found
 bounds-flags-found c = let w = c.requires in
-    let f = c.head_declaration.ensures (sheet-declarations w.stands) (head-at (here c.loop-clause-test.true (c.loop-clause.invariant.1 w)).clause) w.once in
+    let f = c.find_near.ensures (sheet-declarations w.stands) (head-at (here c.loop-clause-test.true (c.loop-clause.invariant.1 w)).clause) w.once in
     omega (arith, f.low c.in-Some.found c.in-Some.is, w.few, w.stands.declarations_count)
 
 pub past_clause-at-requires : goal.past_clause-at-requires
@@ -35,15 +35,15 @@ pub loop-clause-preserved : goal.loop-clause-preserved
 loop-clause-preserved c = let on = c.loop-clause-test.true in
     let long : length c.loop-clause.flags ≡ declarations = c.loop-clause.invariant.0 in
     let flags : List Bool = c.loop-clause.flags in
-    elim c.match-head_declaration.branch [
+    elim c.match-find_near.branch [
       | in-Some w ↦ (
         ap length w.flags-is ∙ length-set flags w.in-Some.found true ∙ long,
         λ v.
             let a = c.loop-clause.invariant.1 v in
-            let f : Finds v.stands.sheet.declarations (here on a).clause.clause.head c.head_declaration.result =
-            c.head_declaration.ensures (sheet-declarations v.stands) (head-at (here on a).clause) v.once in
+            let f : OnlyDeclaration v.stands.sheet.declarations (here on a).clause.clause.head c.find_near.result =
+            c.find_near.ensures (sheet-declarations v.stands) (head-at (here on a).clause) v.once in
             let inside : w.in-Some.found < length flags = omega (arith, f.low w.in-Some.found w.in-Some.is, v.few, v.stands.declarations_count) in
-            flagged-on on a c.head_declaration.result f c.match-head_declaration.flags
+            flagged-on on a c.find_near.result f c.match-find_near.flags
             (λ k low.
             ap (λ (x : List Bool). get_or x k false) w.flags-is
             ∙ flag-set flags w.in-Some.found k inside
@@ -54,9 +54,9 @@ loop-clause-preserved c = let on = c.loop-clause-test.true in
         ap length w.flags-is ∙ long,
         λ v.
             let a = c.loop-clause.invariant.1 v in
-            let f : Finds v.stands.sheet.declarations (here on a).clause.clause.head c.head_declaration.result =
-            c.head_declaration.ensures (sheet-declarations v.stands) (head-at (here on a).clause) v.once in
-            flagged-on on a c.head_declaration.result f c.match-head_declaration.flags
+            let f : OnlyDeclaration v.stands.sheet.declarations (here on a).clause.clause.head c.find_near.result =
+            c.find_near.ensures (sheet-declarations v.stands) (head-at (here on a).clause) v.once in
+            flagged-on on a c.find_near.result f c.match-find_near.flags
             (λ k low.
             ap (λ (x : List Bool). get_or x k false) w.flags-is
             ∙ sym (ap (λ (o : Option ℕ). is_place o k || get_or flags k false) w.in_default.is))

@@ -1,4 +1,4 @@
--- `marks::sheets::unwritten_fault` meets its contract: each way out is a law of `Laws`. Assumes nothing.
+-- `marks::sheets::unwritten_fault` meets its contract: each way out is a law of `SheetsLaws`. Assumes nothing.
 use Rattle.marks.proofs.SheetsLaws.{passed_over, asked}
 use Rattle.marks.proofs.sheets.unwritten_fault.Goals as goal
 

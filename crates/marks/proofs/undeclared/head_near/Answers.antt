@@ -6,8 +6,5 @@ use Rattle.marks.proofs.undeclared.head_near.Goals as goal
 pub overflow_add-head : goal.overflow_add-head
 overflow_add-head c = omega (arith, clause-room c.requires)
 
-pub is_near-requires : goal.is_near-requires
-is_near-requires c = head-at c.requires
-
-pub find_atom-requires : goal.find_atom-requires
-find_atom-requires c = head-at c.requires
+pub find_near-requires : goal.find_near-requires
+find_near-requires c = head-at c.requires

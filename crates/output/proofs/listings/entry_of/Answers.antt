@@ -1,4 +1,4 @@
--- `output::listings::entry_of` meets its contract: each way out is a law of `Laws`. Assumes nothing.
+-- `output::listings::entry_of` meets its contract: each way out is a law of `ListingsLaws`. Assumes nothing.
 use Rattle.output.proofs.ListingsLaws.{entry-none, entry-some}
 use borrow.Author.Rules.{rules}
 use Rattle.output.proofs.listings.entry_of.Goals as goal

@@ -1,4 +1,4 @@
--- `parse::cursor::same_span` meets its contract: each way out is a law of `Laws`. Assumes nothing.
+-- `parse::cursor::same_span` meets its contract: each way out is a law of `ParseLaws`. Assumes nothing.
 use Rattle.parse.proofs.ParseLaws.{span_same, span-other}
 use borrow.Author.Rules.{rules}
 use Rattle.parse.proofs.cursor.same_span.Goals as goal

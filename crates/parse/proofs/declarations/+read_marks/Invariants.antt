@@ -1,4 +1,4 @@
--- `parse::declarations::read_marks` meet its contract: each way out is a law of `MarkLaws`. Assumes nothing.
+-- `parse::declarations::read_marks` meets its contract: each way out is a law of `MarkLaws`. Assumes nothing.
 
 use Rattle.parse.proofs.declarations.+read_marks.Given as goal
 

@@ -1,4 +1,4 @@
--- `terms::read_arguments`, `terms::read_atom`, `terms::read_term` meet their contracts: each way out is a law of `TermLaws`. Assumes nothing.
+-- `parse::terms::read_arguments`, `parse::terms::read_atom`, `parse::terms::read_term` meet their contracts: each way out is a law of `TermLaws`. Assumes nothing.
 use Prim.Native.Nat.{◌+◌, ◌*◌}
 use Rattle.parse.proofs.terms.+read_arguments_read_atom_read_term.Given as goal
 

@@ -1,7 +1,8 @@
 use Rattle.std.proofs.Common.{ℕ, ◌+◌, ◌≡◌, List, sym, ap, add-one, arith, rules}
 use Rattle.std.proofs.Math.ListN.{set}
 use Rattle.syntax.specs.declared.Entry.{Entry}
-use Rattle.output.specs.Listings.{entry_from, pasted}
+use Rattle.output.specs.Listings.{pasted}
+use Rattle.words.specs.Tables.{entry_from}
 use Rattle.pilvaust.proofs.entries.fill.Goals as goal
 
 -- one more entry stored

@@ -1,5 +1,6 @@
 use Rattle.std.proofs.Common.{◌-◌, ◌≡◌, ◌≤◌}
-use Rattle.output.specs.Listings.{entry_from, pasted}
+use Rattle.output.specs.Listings.{pasted}
+use Rattle.words.specs.Tables.{entry_from}
 use Rattle.pilvaust.proofs.entries.fill.Given as goal
 
 abbrev pub invariant-loop-i : goal.invariant-loop-i

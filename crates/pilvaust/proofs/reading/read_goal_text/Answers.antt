@@ -1,4 +1,4 @@
--- `pilvaust::reading::read_goal_text` meets its contract: each way out is a law of `Entries`. Assumes nothing.
+-- `pilvaust::reading::read_goal_text` meets its contract: each way out is a law of `ReadingEntries`. Assumes nothing.
 use Prim.Native.Nat.{◌≤◌}
 use mathlib.Core.Path.{sym, ◌∙◌}
 use lib.ListN.{length}

@@ -1,4 +1,4 @@
--- `pilvaust::reading::read_text` meets its contract: each way out is a law of `Laws`. Assumes nothing.
+-- `pilvaust::reading::read_text` meets its contract: each way out is a law of `ReadingLaws`. Assumes nothing.
 use mathlib.Core.Path.{sym, ◌∙◌}
 use lib.ListN.{length}
 use borrow.Author.Tests.{ltb-true, ltb-false}

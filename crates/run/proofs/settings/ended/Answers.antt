@@ -1,4 +1,4 @@
--- `run::settings::ended` meets its contract: each way out is a law of `Laws`. Assumes nothing.
+-- `run::settings::ended` meets its contract: each way out is a law of `SettingsLaws`. Assumes nothing.
 use Rattle.run.proofs.SettingsLaws.{ended-done, ended-wanted, ended-steps, ended-open}
 use Rattle.run.proofs.settings.ended.Goals as goal
 

@@ -1,4 +1,4 @@
--- `run::settings::in_range` meets its contract: each way out is a law of `Laws`. Assumes nothing.
+-- `run::settings::in_range` meets its contract: each way out is a law of `SettingsLaws`. Assumes nothing.
 use Rattle.run.proofs.SettingsLaws.{range-steps, range-answers}
 use Rattle.run.proofs.settings.in_range.Goals as goal
 
