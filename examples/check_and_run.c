@@ -18,20 +18,31 @@ static int show_fault(const size_t *numbers, const char *sheet, const char *goal
 
 static int check(const char *sheet)
 {
-    size_t numbers[PILVAUST_VERDICT_NUMBERS], entry[PILVAUST_ENTRY_NUMBERS], i;
+    size_t numbers[PILVAUST_VERDICT_NUMBERS], entry[PILVAUST_ENTRY_NUMBERS], found[PILVAUST_LOOKUP_NUMBERS], i;
+    uint32_t words[64 * PILVAUST_ENTRY_WORDS];
     const uint8_t *bytes = (const uint8_t *)sheet;
     if (pilvaust_check(bytes, strlen(sheet), numbers, PILVAUST_VERDICT_NUMBERS) != PILVAUST_NONE)
         return show_fault(numbers, sheet, "");
     printf("accepted: declarations %zu, clauses %zu\n", numbers[PILVAUST_DECLARATION_COUNT], numbers[PILVAUST_CLAUSE_COUNT]);
-    for (i = 0; pilvaust_entry(bytes, strlen(sheet), i, entry, PILVAUST_ENTRY_NUMBERS) != 0; i++)
+    for (i = 0; pilvaust_entry(bytes, strlen(sheet), i, entry, PILVAUST_ENTRY_NUMBERS) != 0; i++) {
+        uint32_t *word = words + i * PILVAUST_ENTRY_WORDS;
+        word[PILVAUST_WORD_AT] = (uint32_t)entry[PILVAUST_ENTRY_AT];
+        word[PILVAUST_WORD_LEN] = (uint32_t)entry[PILVAUST_ENTRY_LEN];
+        word[PILVAUST_WORD_ARGUMENTS] = (uint32_t)entry[PILVAUST_ENTRY_ARGUMENTS];
+        word[PILVAUST_WORD_FREE] = 0;
         printf("declared: %.*s/%zu\n", (int)entry[PILVAUST_ENTRY_LEN], sheet + entry[PILVAUST_ENTRY_AT], entry[PILVAUST_ENTRY_ARGUMENTS]);
+    }
+    if (pilvaust_look_up(bytes, strlen(sheet), words, i * PILVAUST_ENTRY_WORDS, (const uint8_t *)"next", 4, 2, found, PILVAUST_LOOKUP_NUMBERS) != 0)
+        printf("next/2: entry %zu, compared %zu\n", found[PILVAUST_PLACE], found[PILVAUST_COMPARED]);
     return 0;
 }
 
 static int run(const char *sheet, const char *goal)
 {
-    size_t numbers[PILVAUST_RUN_NUMBERS];
+    size_t numbers[PILVAUST_RUN_NUMBERS], single[PILVAUST_DETERMINACY_NUMBERS];
     uint8_t text[4096];
+    if (pilvaust_determinate((const uint8_t *)sheet, strlen(sheet), single, PILVAUST_DETERMINACY_NUMBERS) == PILVAUST_NONE)
+        printf("at most one line: %s\n", single[PILVAUST_AT_MOST_ONE] == 1 ? "yes" : "no");
     if (pilvaust_run((const uint8_t *)sheet, strlen(sheet), (const uint8_t *)goal, strlen(goal), 65536, 16, false, text, sizeof text, numbers,
                      PILVAUST_RUN_NUMBERS) != PILVAUST_NONE)
         return show_fault(numbers, sheet, goal);

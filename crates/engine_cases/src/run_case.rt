@@ -50,7 +50,7 @@ fn run_with<'a, W: Write>(
     asked: RunSettings,
     text: &mut [u8],
 ) -> Result<()> {
-    let run = pilvaust::run(sheet, goal, asked, text);
+    let run = pilvaust::run_written(sheet, goal, asked, text);
     print_run(out, sheet, goal, run, text)
 }
 
@@ -64,7 +64,7 @@ fn trace_with<'a, W: Write>(
     asked: RunSettings,
     text: &mut [u8],
 ) -> Result<()> {
-    let run = pilvaust::run_traced(sheet, goal, trace, asked, text).map(|written| written.report);
+    let run = pilvaust::run_traced(sheet, goal, trace, asked, text);
     print_run(out, sheet, goal, run, text)
 }
 

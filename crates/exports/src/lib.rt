@@ -1,9 +1,9 @@
-// Reading, checking and running for programs in other languages: include/pilvaust.h. Each answer is a list of numbers (`Numbers` and `EntriesNumbers` of
-// output/specs), of which a lent slice takes as many as fit; the rest of the slice stays as it was.
+// Reading, checking and running for programs in other languages: include/pilvaust.h. Each answer is a list of numbers (`Told` of specs/ here; `Numbers` and
+// `EntriesNumbers` of output/specs), of which a lent slice takes as many as fit; the rest of the slice stays as it was.
 
 #![tactic(auto)]
 
-ghost use Rattle.std.specs.Prelude.{◌≡◌, length};
+ghost use Rattle.std.specs.Prelude.{◌≡◌, length, get_or};
 ghost use Rattle.std.proofs.lemmas.List.Edits.{sets};
 ghost use Rattle.syntax.specs.Verdicts.{read_verdict, entry_at};
 ghost use Rattle.mode_rules.specs.Checking.{check_verdict, check_goal_verdict};
@@ -11,9 +11,18 @@ ghost use Rattle.machine.specs.Runs.{run_outcome, run_text};
 ghost use Rattle.machine.specs.Traces.{traced_outcome};
 ghost use Rattle.output.specs.EntriesNumbers.{version, entry_numbers};
 ghost use Rattle.output.specs.Numbers.{verdict_numbers, refusal_in};
+ghost use Rattle.machine.specs.Determinacy.{judged};
+ghost use Rattle.marks.specs.Searching.{whole_entries, look_up};
+ghost use Rattle.determinacy.specs.Told.{told};
 ghost use Rattle.exports.specs.Runs.{asking, outcome_numbers};
+ghost use Rattle.exports.specs.Told.{lookup_numbers, determinacy_numbers};
 
-use syntax::RunSettings;
+use determinacy::Determinacy;
+use marks::lookup::Lookup;
+use output::faults::{FAULT, fault_numbers};
+use output::numbers::put_both;
+use output::storing::put_numbers;
+use syntax::{Fault, RunSettings, Text};
 
 /// The version of the functions below and of their numbers, which has to be `PILVAUST_VERSION` of the header.
 #[unsafe(no_mangle)]
@@ -59,6 +68,66 @@ pub extern "C" fn pilvaust_entry(sheet: &[u8], i: usize, numbers: &mut [usize]) 
     ensures numbers { numbers.new ≡ sets numbers.old 0 (entry_numbers (entry_at sheet.now i)) }
 {
     output::entries::put_entry(pilvaust::entry(sheet, i), numbers)
+}
+
+// What the search tells, as numbers; the first is returned.
+fn put_lookup(found: Lookup, numbers: &mut [usize]) -> usize
+    ensures is { result ≡ get_or (lookup_numbers found) 0 0 }
+    ensures numbers { numbers.new ≡ sets numbers.old 0 (lookup_numbers found) }
+{
+    match found.place {
+        Some(place) => {
+            put_numbers(&[1, place, found.compared], numbers, 0);
+            1
+        }
+        None => {
+            put_numbers(&[0, 0, found.compared], numbers, 0);
+            0
+        }
+    }
+}
+
+/// The predicate of a name and a number of arguments, looked for in a list of entries of a text, four words each: byte and length of its name, its number of
+/// arguments, and one that is not looked at. The search's numbers, and returned 1 where an entry matches, else 0.
+#[unsafe(no_mangle)]
+pub extern "C" fn pilvaust_look_up(
+    text: &[u8],
+    entries: &[u32],
+    name: &[u8],
+    arguments: usize,
+    numbers: &mut [usize],
+) -> usize
+    ensures is { result ≡ get_or (lookup_numbers (look_up text.now name.now arguments (whole_entries entries.now))) 0 0 }
+    ensures numbers { numbers.new ≡ sets numbers.old 0 (lookup_numbers (look_up text.now name.now arguments (whole_entries entries.now))) }
+{
+    put_lookup(pilvaust::look_up(text, entries, name, arguments), numbers)
+}
+
+// What the test tells, as numbers; that of the refusal is returned.
+fn put_determinacy(answer: Determinacy, numbers: &mut [usize]) -> usize
+    ensures is { result ≡ refusal_in (determinacy_numbers answer) }
+    ensures numbers { numbers.new ≡ sets numbers.old 0 (determinacy_numbers answer) }
+{
+    match answer {
+        Determinacy::Yes => put_both([0; FAULT], &[1, 0, 0], numbers),
+        Determinacy::No { first, second } => put_both([0; FAULT], &[0, first, second], numbers),
+        Determinacy::Refused(refusal) => {
+            let fault = Fault {
+                text: Text::Sheet,
+                refusal,
+            };
+            put_both(fault_numbers(fault), &[0, 0, 0], numbers)
+        }
+    }
+}
+
+/// The test whether a run over a sheet writes at most one line: its numbers, and returned the number of the sheet's refusal, 0 where it is accepted.
+#[unsafe(no_mangle)]
+pub extern "C" fn pilvaust_determinate(sheet: &[u8], numbers: &mut [usize]) -> usize
+    ensures is { result ≡ refusal_in (determinacy_numbers (told (judged sheet.now))) }
+    ensures numbers { numbers.new ≡ sets numbers.old 0 (determinacy_numbers (told (judged sheet.now))) }
+{
+    put_determinacy(pilvaust::determinate(sheet), numbers)
 }
 
 // What a run is asked for, from the three parameters that C passes.

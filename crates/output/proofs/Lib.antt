@@ -1,5 +1,4 @@
-pub mod LinesLaws
 pub mod LinesCases
 pub mod ReportsCases
 pub mod ListingsLaws
-pub mod Fits
+pub mod PrintingLaws

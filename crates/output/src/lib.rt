@@ -4,7 +4,6 @@
 
 pub mod entries;
 pub mod faults;
-pub mod lines;
 pub mod listings;
 pub mod names;
 pub mod numbers;

@@ -20,8 +20,8 @@ const COUNTS: usize = 2;
 // How many numbers a run's report is: kind of end, answers, steps, and the bytes written.
 const REPORT: usize = 4;
 
-// Writes a fault and what follows it, and returns the refusal's number. No fault is eight zeros, and so the number 0.
-fn put_both(fault: [usize; FAULT], rest: &[usize], out: &mut [usize]) -> usize
+/// Writes a fault and what follows it, and returns the refusal's number. No fault is eight zeros, and so the number 0.
+pub fn put_both(fault: [usize; FAULT], rest: &[usize], out: &mut [usize]) -> usize
     requires { length rest.now ≤ 4 }
     ensures is { result ≡ refusal_in (fault ++ rest.now) }
     ensures numbers { out.new ≡ sets out.old 0 (fault ++ rest.now) }

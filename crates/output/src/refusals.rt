@@ -1,8 +1,7 @@
-// The numbers of a refusal, the refusal that a fault of reading is, and whether a text is too long.
+// The numbers of a refusal, and whether a text is too long.
 
 ghost use Rattle.std.specs.Prelude.{◌≡◌, ltb};
 ghost use Rattle.syntax.specs.Refusals.{numbers_of};
-ghost use Rattle.syntax.specs.Verdicts.{fault_of};
 
 use syntax::{Five, Refusal};
 
@@ -96,17 +95,4 @@ pub fn is_too_long<const MOST: usize>(bytes: usize) -> bool
     ensures { result ≡ ltb MOST bytes }
 {
     MOST < bytes
-}
-
-/// The refusal of a fault of reading, told by its number, 3 to 6, and its byte: `fault_of` of `syntax`'s definitions as code. The parser gives refusals
-/// without it.
-pub fn fault_of(number: usize, byte: usize) -> Refusal
-    ensures { result ≡ fault_of number byte }
-{
-    match number {
-        3 => Refusal::NoToken(byte),
-        4 => Refusal::Overlong(byte),
-        5 => Refusal::Misplaced(byte),
-        _ => Refusal::OverLimit(byte),
-    }
 }

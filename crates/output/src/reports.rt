@@ -1,7 +1,7 @@
 // The line that ends a run, into a lent buffer.
 
 ghost use Rattle.std.specs.Prelude.{◌≡◌, ◌+◌, ◌≤◌};
-ghost use Rattle.words.specs.Buffers.{Appended, fitted_length, fitted};
+ghost use Rattle.words.specs.Buffers.{Appended};
 ghost use Rattle.output.specs.Reports.{report_line, kind_number, kind_word};
 
 use syntax::{Report, RunEnd};
@@ -20,25 +20,10 @@ pub fn kind_number(kind: RunEnd) -> usize
     }
 }
 
-/// Writes the line that ends a run to the start of `out` and returns its length. Where the whole line does not fit, it writes nothing and returns 0. Either
-/// way a caller may print the first so many bytes of `out`.
-pub fn put_report(report: Report, out: &mut [u8]) -> usize
-    ensures length { result ≡ fitted_length (report_line report.kind report.answers report.steps) out.old }
-    ensures text { out.new ≡ fitted (report_line report.kind report.answers report.steps) out.old }
-{
-    let mut nothing = [0u8; 0];
-    let report_length = append_report(report, &mut nothing);
-    if report_length <= out.len() {
-        append_report(report, out)
-    } else {
-        0
-    }
-}
-
-// The functions below append as those of `words::buffers` do.
-
-fn append_report(report: Report, out: &mut [u8]) -> usize
-    ensures { Appended out.old 0 (report_line report.kind report.answers report.steps) out.new result }
+/// Appends the line that ends a run to the start of a buffer, as the functions of `words::buffers` do; and so does the function below.
+pub fn append_report(report: Report, out: &mut [u8]) -> usize
+    ensures wrote { Appended out.old 0 (report_line report.kind report.answers report.steps) out.new result }
+    ensures within { result ≤ 53 }
 {
     let past_word = append(b"end ", out, 0);
     let past_kind = append_kind(report.kind, out, past_word);

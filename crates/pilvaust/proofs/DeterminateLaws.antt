@@ -1,5 +1,6 @@
 -- Laws of the test of a sheet for at most one answer: one for each way out of `determinate`. Assumes nothing.
 use Prim.Native.Nat.{ℕ, ◌≤◌}
+use native.Mathlib.Omega.{arith}
 use mathlib.Core.Path.{◌≡◌, refl, sym, ap, ◌∙◌}
 use mathlib.Core.Bool.{false}
 use mathlib.Core.List.{List}
@@ -14,7 +15,9 @@ use Rattle.syntax.specs.Verdicts.{Verdict}
 use Rattle.syntax.specs.Verdicts.{Accepted, Refused}
 use Rattle.mode_rules.specs.Checking.{checked_sheet, check_verdict, verdict_with}
 use Rattle.marks.specs.Tables.{SheetAt, DeclarationsAt}
-use Rattle.machine.specs.Determinacy.{against, judged_by, judged_from, judged}
+use Rattle.machine.specs.Determinacy.{Judged, declined, single, several, PlainGoal, AtMostOneLine, against, judged_by, judged_from, judged}
+use Rattle.machine.specs.Runs.{RunSettings, run_outcome, run_text}
+use Rattle.machine_theorems.proofs.AtMostOne.{at-most-one-line}
 use Rattle.run_layout.proofs.Limits.{checked-sheet-limited}
 use Rattle.pilvaust.specs.Tables.{Tabled}
 use Rattle.pilvaust.proofs.ReadingEntries.{refused-by}
@@ -22,7 +25,7 @@ use Rattle.pilvaust.proofs.SheetLaws.{sheet_short, accepted-sheet, sheet-at}
 use Rattle.determinacy.specs.Told.{told}
 use Rattle.determinacy.specs.Tables.{SheetReady}
 use Rattle.determinacy.specs.declared.Determinacy.{Determinacy}
-use Rattle.determinacy.specs.declared.Determinacy.TheVariants.{Refused as declined-by}
+use Rattle.determinacy.specs.declared.Determinacy.TheVariants.{Yes, Refused as declined-by}
 
 told-refused : (q : Refusal) → told (judged_from (refused q)) ≡ declined-by q
 unfolding told judged_from
@@ -60,3 +63,14 @@ module _ (s declared table : List ℕ) (v : Verdict) (ev : v ≡ check_verdict s
     pub sheet-judged : (r : Determinacy) → ((w : SheetReady s declared n table k) → r ≡ told (judged_by (against w.stands.sheet))) → r ≡ told (judged s)
     unfolding judgeable judged sheet-at
     sheet-judged r f = f judgeable ∙ sym (ap (λ (y : Outcome Sheet). told (judged_from y)) of.1 ∙ told-accepted of.0)
+
+told-yes : (j : Judged) → told j ≡ Yes → j ≡ single
+unfolding told
+told-yes (declined r) e = absurd (let z : ◌≡◌ {A = ℕ} 0 1 = cc in omega arith)
+told-yes single e = refl
+told-yes (several m n) e = absurd (let z : ◌≡◌ {A = ℕ} 0 1 = cc in omega arith)
+
+-- what a yes says of every run over the sheet
+pub one-line : (s : List ℕ) {answer : Determinacy} → answer ≡ told (judged s) → (goal : List ℕ) → answer ≡ Yes → PlainGoal goal → (asked : RunSettings) (room : ℕ)
+    → AtMostOneLine (run_text (run_outcome s goal asked room))
+one-line s e goal y plain asked room = at-most-one-line s goal (told-yes (judged s) (sym e ∙ y)) plain asked room

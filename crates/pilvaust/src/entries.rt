@@ -5,13 +5,43 @@ ghost use Rattle.syntax.specs.Limits.{declarations};
 ghost use Rattle.syntax.specs.Words.{declared_words};
 ghost use Rattle.syntax.specs.Verdicts.{sheet_of, read_verdict};
 ghost use Rattle.mode_rules.specs.Checking.{checked_sheet, check_verdict};
-ghost use Rattle.output.specs.Listings.{overlay, declared_of, pasted};
+ghost use Rattle.output.specs.Listings.{ListingOf, overlay, declared_of, pasted};
 ghost use Rattle.words.specs.Tables.{entry_from};
 
-use crate::{check_listing, read_listing};
-use output::listings::Listing;
-use syntax::{Entry, Verdict};
+use crate::reading::{read_checked, read_text};
+use output::listings::{Listing, listed};
+use syntax::{DECLARED_WORDS, Entry, SHEET_WORDS, Verdict};
 use words::tables::entry_at;
+
+// Reads a sheet, for a list with room for `room` entries.
+fn read_listing(sheet: &[u8], room: usize) -> Listing
+    ensures { ListingOf (sheet_of sheet.now) room result }
+{
+    let mut words = [0; DECLARED_WORDS];
+    let mut table = [0; SHEET_WORDS];
+    let verdict = read_text(sheet, &mut words, &mut table);
+    let count = listed(verdict, room);
+    Listing {
+        verdict,
+        count,
+        words,
+    }
+}
+
+// Checks a sheet, for a list with room for `room` entries.
+fn check_listing(sheet: &[u8], room: usize) -> Listing
+    ensures { ListingOf (checked_sheet sheet.now) room result }
+{
+    let mut words = [0; DECLARED_WORDS];
+    let mut table = [0; SHEET_WORDS];
+    let verdict = read_checked(sheet, &mut words, &mut table, false);
+    let count = listed(verdict, room);
+    Listing {
+        verdict,
+        count,
+        words,
+    }
+}
 
 // Writes a listing's entries into the list and returns its verdict.
 fn fill(found: Listing, entries: &mut [Entry]) -> Verdict

@@ -4,8 +4,13 @@
 
 #![tactic(auto)]
 
+ghost use Rattle.std.specs.Prelude.{OnOk};
+ghost use Rattle.std.specs.Io.KnownBytes.{Appends};
+ghost use Rattle.starred_cases.specs.Programs.{runner};
+
 use input::read_file;
-use std::io;
+use output::printing::print_run;
+use std::io::{self, Write};
 use syntax::{GOAL_BYTES, MOST_STEPS, RunSettings, SHEET_BYTES, TRACE_BYTES};
 
 // How many bytes of the sheet are read at most.
@@ -23,23 +28,26 @@ const ANSWERS: usize = 16;
 // The bytes of text that the run is lent for its answers.
 const TEXT_BYTES: usize = 4096;
 
-fn main(rt: HostRuntime) -> io::Result<()> {
-    let mut sheet = [0u8; SHEET_ROOM];
-    let mut goal = [0u8; GOAL_ROOM];
-    let mut trace = [0u8; TRACE_ROOM];
+// Prints what a goal over a sheet and a trace gives: all that the program prints, for any writer.
+fn run_and_print<W: Write>(out: &mut W, sheet: &[u8], goal: &[u8], trace: &[u8]) -> io::Result<()>
+    ensures { OnOk result (Appends (W.contents out.old) (W.contents out.new) (runner sheet.now goal.now trace.now)) }
+{
     let mut text = [0u8; TEXT_BYTES];
-    let n = read_file(&rt, "sheet", &mut sheet);
-    let m = read_file(&rt, "goal", &mut goal);
-    let k = read_file(&rt, "trace", &mut trace);
-    let clauses = &sheet[..n];
-    let asked = &goal[..m];
-    let settings = RunSettings {
+    let asked = RunSettings {
         allowance: MOST_STEPS,
         wanted: ANSWERS,
         stored: false,
     };
-    let run = pilvaust::run_traced(clauses, asked, &trace[..k], settings, &mut text).map(
-        |written| written.report,
-    );
-    output::printing::print_run(&mut io::writer(&rt), clauses, asked, run, &text)
+    let answer = pilvaust::run_traced(sheet, goal, trace, asked, &mut text);
+    print_run(out, sheet, goal, answer, &text)
+}
+
+fn main(rt: HostRuntime) -> io::Result<()> {
+    let mut sheet = [0u8; SHEET_ROOM];
+    let mut goal = [0u8; GOAL_ROOM];
+    let mut trace = [0u8; TRACE_ROOM];
+    let n = read_file(&rt, "sheet", &mut sheet);
+    let m = read_file(&rt, "goal", &mut goal);
+    let k = read_file(&rt, "trace", &mut trace);
+    run_and_print(&mut io::writer(&rt), &sheet[..n], &goal[..m], &trace[..k])
 }

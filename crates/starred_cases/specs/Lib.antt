@@ -1,1 +1,2 @@
 pub mod Programs
+pub mod Cases

@@ -6,7 +6,8 @@ use Rattle.syntax.specs.Verdicts.{Refused}
 use Rattle.output.specs.Lines.{line_of}
 use Rattle.output.specs.Reports.{report_line}
 use Rattle.mode_rules.specs.Checking.{check_verdict, fault_name}
-use Rattle.machine.specs.Runs.{RunSettings, RunOutcome, stopped, ran, run_outcome}
+use Rattle.machine.specs.Runs.{RunSettings, RunOutcome, stopped, ran}
+use Rattle.machine.specs.Traces.{traced_outcome}
 
 -- a verdict, with the name that it hands back of the two texts
 unfoldable pub verdict_line : List ℕ → List ℕ → Verdict → List ℕ
@@ -32,6 +33,6 @@ runner_text = 4096
 abbrev pub runner_settings : RunSettings
 runner_settings = record { allowance = most_steps; wanted = runner_answers; stored = false }
 
--- the runner's output for two files
-unfoldable pub runner : List ℕ → List ℕ → List ℕ
-runner sheet goal = run_lines sheet goal (run_outcome sheet goal runner_settings runner_text)
+-- the runner's output for three files: sheet, goal and trace
+unfoldable pub runner : List ℕ → List ℕ → List ℕ → List ℕ
+runner sheet goal trace = run_lines sheet goal (traced_outcome sheet goal trace runner_settings runner_text)

@@ -1,0 +1,3 @@
+pub mod Names
+pub mod Piles
+pub mod Examples
