@@ -1,5 +1,6 @@
-//! Times reading, checking and running through the static library of crates/exports: how reading grows with a sheet's
-//! length and a run with its steps, and reading and checking a full sheet, and runs, beside SWI-Prolog with the same texts.
+//! Times reading, checking, writing afresh and running through the static library of crates/exports: how reading grows with a
+//! sheet's length and a run with its steps, how much of the reading's time the writing takes, and reading and checking a full
+//! sheet, and runs, beside SWI-Prolog with the same texts.
 
 use std::hint::black_box;
 use std::process::{Command, exit};
@@ -9,7 +10,16 @@ unsafe extern "C" {
     /// crates/exports (include/pilvaust.h): 0 where the sheet is accepted, and its counts among the numbers.
     fn pilvaust_read(sheet: *const u8, len: usize, numbers: *mut usize, numbers_len: usize) -> usize;
     fn pilvaust_check(sheet: *const u8, len: usize, numbers: *mut usize, numbers_len: usize) -> usize;
-    /// The same, `stored` being the mark for a sheet stored earlier: 0 where the run ended, and its report among the numbers.
+    /// A sheet written afresh into a buffer: 0 where it is written, and its length among the numbers.
+    fn pilvaust_format(
+        sheet: *const u8,
+        len: usize,
+        out: *mut u8,
+        room: usize,
+        numbers: *mut usize,
+        numbers_len: usize,
+    ) -> usize;
+    /// A goal run over a sheet, `stored` being the mark for a sheet stored earlier: 0 where the run ended, and its report among the numbers.
     fn pilvaust_run(
         sheet: *const u8,
         len: usize,
@@ -47,6 +57,8 @@ const OUT_OF_STEPS: usize = 2;
 const DECLARATION_COUNT: usize = 8;
 const CLAUSE_COUNT: usize = 9;
 const VERDICT_NUMBERS: usize = 10;
+const LENGTH: usize = 8;
+const FORMAT_NUMBERS: usize = 9;
 const KIND: usize = 8;
 const ANSWER_COUNT: usize = 9;
 const STEP_COUNT: usize = 10;
@@ -55,6 +67,7 @@ const MOST_GROWTH: f64 = 5.0;
 const MOST_MICROSECONDS: f64 = 2_000.0;
 const MOST_OF_SWI: f64 = 0.05;
 const MOST_RUN_GROWTH: f64 = 12.0;
+const MOST_OF_READING: f64 = 0.5;
 const SHEET_FILE: &str = "bench/out/sheet.pl";
 const GOAL_FILE: &str = "bench/out/goal.pl";
 
@@ -82,6 +95,19 @@ fn check(sheet: &[u8]) -> Counts {
     // SAFETY: as for `read`.
     let refusal = unsafe { pilvaust_check(sheet.as_ptr(), sheet.len(), numbers.as_mut_ptr(), VERDICT_NUMBERS) };
     counts(refusal, &numbers)
+}
+
+/// Written afresh: the sheet is read and checked, its output measured and then written.
+fn format(sheet: &[u8]) -> usize {
+    let mut out = [0; FULL];
+    let mut numbers = [0; FORMAT_NUMBERS];
+    // SAFETY: the function reads `len` bytes from `sheet`, writes at most `FULL` to `out` and so many numbers, and keeps nothing.
+    let refusal = unsafe {
+        pilvaust_format(sheet.as_ptr(), sheet.len(), out.as_mut_ptr(), FULL, numbers.as_mut_ptr(), FORMAT_NUMBERS)
+    };
+    assert_eq!(refusal, 0, "refused: {numbers:?}");
+    black_box(&out);
+    numbers[LENGTH]
 }
 
 /// What a run reports.
@@ -163,6 +189,13 @@ fn variables(number: usize) -> String {
 fn brackets(_: usize) -> String {
     let nested = "f(".repeat(16) + "a" + &")".repeat(16);
     format!("p :- X = {nested}, {nested} = X,\n{nested} = {nested}.\n")
+}
+
+/// Three clauses of terms without blanks, with hardly a comment: as much is written as is read.
+fn terms(number: usize) -> String {
+    let term = |name: &str| format!("ended(Aa,low(Bb,{name}),cons(Aa,{number}))");
+    let clause = format!("p({},Bb):-Bb={}.\n", term("seven"), term("eight"));
+    if number == 0 { format!(":- mode p(*,*).\n{}", clause.repeat(2)) } else { clause.repeat(3) }
 }
 
 fn comments(_: usize) -> String {
@@ -268,7 +301,7 @@ fn reverses() -> Case {
     Case { name: "reverses", sheet: BITS.to_string() + REVERSE, goal, answers: 0 }
 }
 
-fn microseconds(answer: fn(&[u8]) -> Counts, sheet: &[u8]) -> f64 {
+fn microseconds<T>(answer: fn(&[u8]) -> T, sheet: &[u8]) -> f64 {
     let start = Instant::now();
     black_box(answer(black_box(sheet)));
     start.elapsed().as_secs_f64() * 1e6
@@ -352,6 +385,30 @@ fn beside_swi() -> (f64, f64) {
     (slowest, largest)
 }
 
+/// The largest part of the time for reading a full sheet that measuring and writing it afresh takes: what that adds to checking.
+fn of_reading() -> f64 {
+    let makes: [(&str, fn(usize) -> String); 3] = [("rules", rules), ("clinic", clinic), ("terms", terms)];
+    println!("{:10} {:>10} {:>10} {:>6} {:>10}", "writing", "read", "written", "ratio", "bytes");
+    let mut largest: f64 = 0.0;
+    for (name, group) in makes {
+        let full = sheet(FULL, group);
+        let bytes = format(&full);
+        // One after another, and the part taken in each round, so that whatever else the machine does falls on all.
+        let (mut reads, mut writes, mut parts) = (Vec::new(), Vec::new(), Vec::new());
+        for _ in 0..ROUNDS {
+            let read = microseconds(read, &full);
+            let written = microseconds(format, &full) - microseconds(check, &full);
+            reads.push(read);
+            writes.push(written);
+            parts.push(written / read);
+        }
+        let (read, written, part) = (median(reads), median(writes), median(parts));
+        println!("{name:10} {read:7.1} µs {written:7.1} µs {part:6.3} {bytes:10}");
+        largest = largest.max(part);
+    }
+    largest
+}
+
 /// The CPU time of a run in microseconds, over so many runs.
 fn run_microseconds(case: &Case, allowance: usize, runs: usize) -> f64 {
     // SAFETY: it takes nothing and has no other effect.
@@ -427,6 +484,11 @@ fn once(name: &str) {
             black_box(check(&sheet(FULL, group)));
         }
     }
+    for (make, group) in [("rules", rules as fn(usize) -> String), ("clinic", clinic), ("terms", terms)] {
+        if name == format!("format-{make}") {
+            black_box(format(&sheet(FULL, group)));
+        }
+    }
     for case in [reverse(), plus(), paths(), sides(), towers(), bits(), reverses()] {
         if name == case.name {
             black_box(run(&case, STEPS));
@@ -440,6 +502,7 @@ fn main() {
     }
     let growth = growth();
     let (checked, of_swi) = beside_swi();
+    let of_reading = of_reading();
     let run_growth = run_growth();
     runs_beside_swi();
     let mut failed = false;
@@ -447,6 +510,7 @@ fn main() {
         ("largest ratio of reading times", growth, MOST_GROWTH),
         ("µs to read and check a full sheet", checked, MOST_MICROSECONDS),
         ("of SWI-Prolog's time to load it", of_swi, MOST_OF_SWI),
+        ("of the time of reading it to write it afresh", of_reading, MOST_OF_READING),
         ("largest ratio of run times", run_growth, MOST_RUN_GROWTH),
     ] {
         println!("{figure:.3} {what}, to be at most {most}");

@@ -1,4 +1,4 @@
-/* check_and_run SHEET [GOAL]: checks a sheet, runs a goal over it and prints the answers, or the whole fault. C11 and C++. */
+/* check_and_run SHEET [GOAL]: checks a sheet and prints it written afresh, or runs a goal over it and prints the answers; or the whole fault. C11 and C++. */
 #include <stdio.h>
 #include <string.h>
 #include "pilvaust.h"
@@ -51,11 +51,21 @@ static int run(const char *sheet, const char *goal)
     return 0;
 }
 
+static int write_afresh(const char *sheet)
+{
+    size_t numbers[PILVAUST_FORMAT_NUMBERS];
+    uint8_t out[16384];
+    if (pilvaust_format((const uint8_t *)sheet, strlen(sheet), out, sizeof out, numbers, PILVAUST_FORMAT_NUMBERS) != PILVAUST_NONE)
+        return show_fault(numbers, sheet, "");
+    fwrite(out, 1, numbers[PILVAUST_LENGTH], stdout);
+    return 0;
+}
+
 int main(int argc, char **argv)
 {
     if (argc < 2 || pilvaust_version() != PILVAUST_VERSION)
         return 2;
     if (check(argv[1]) != 0)
         return 1;
-    return argc < 3 ? 0 : run(argv[1], argv[2]);
+    return argc < 3 ? write_afresh(argv[1]) : run(argv[1], argv[2]);
 }

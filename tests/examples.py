@@ -6,6 +6,7 @@ sheet, goal, what the runner would print with these settings.  STORED: sheet,
 goal, what the runner would print with the mark for a sheet stored earlier.
 TRACED: sheet, goal, trace, what the runner prints.  DETERMINATE: sheet, the
 line for REQUESTS (xii): yes, no with two clause numbers, or the refusal.
+AFRESH: room, sheet, its one spelling by REQUESTS (iv), or the refusal's line.
 The outputs are written by hand from RULES and REQUESTS, never taken from the engine.
 """
 
@@ -487,6 +488,32 @@ DETERMINATE = [
     (b":-mode p. p. p. :-mode p.", "refused sheet 7 23 0 0 0"),
     (b":-mode p(+). p(a) :- (p(X);true).", "refused sheet 9 24 1 1 1 p"),
     (b":-mode p(-). p(a). p(X).", "refused sheet 10 21 2 0 1 p"),
+]
+
+# REQUESTS (iv) and the rulings on it.
+AFRESH = [
+    (0, b"", ""),
+    (99, b"", ""),
+    (99, b" % nothing\n", ""),
+    # 11: the output exceeds the buffer, after 10 and 16
+    (14, b":-mode p.p.", ":- mode p.\np.\n"),
+    (13, b":-mode p.p.", "refused sheet 11 0 0 0 0"),
+    (0, b":-mode p.p.", "refused sheet 11 0 0 0 0"),
+    (0, b":-mode p.", "refused sheet 16 7 0 0 0"),
+    (0, b":-mode p(-).p(X).", "refused sheet 10 14 1 0 1 p"),
+    (99, b"p.", "refused sheet 8 0 1 0 0 p"),
+    (99, b"p(.", "refused sheet 5 2 0 0 0"),
+    # declarations first, each kind in its order; blanks and comments
+    (99, b"p(X,_):-q,(Y=X;_=007). :-mode q. :-mode p(*,*). q.", ":- mode q.\n:- mode p(*,*).\np(V1,V2):-q,(V3=V1;V4=7).\nq.\n"),
+    (99, b"q.p.:-mode p.% p\n:-\nmode\tq .", ":- mode p.\n:- mode q.\nq.\np.\n"),
+    (99, b":-mode p(+ , - ,*) . p( a , b,c ).", ":- mode p(+,-,*).\np(a,b,c).\n"),
+    # variables by first appearance in the clause, each `_` too
+    (99, b":-mode p(*,*).p(_,_).p(X,Y).p(Y,X).p(X,X).p(V2,V1).", ":- mode p(*,*).\np(V1,V2).\np(V1,V2).\np(V1,V2).\np(V1,V1).\np(V1,V2).\n"),
+    (99, b":-mode p(*).p(f(B,_,A,B)):-A=_,C=B.", ":- mode p(*).\np(f(V1,V2,V3,V1)):-V3=V4,V5=V1.\n"),
+    # numerals without leading zeros
+    (99, b":-mode p(*,*,*,*).p(00,010,a01,7).", ":- mode p(*,*,*,*).\np(0,10,a01,7).\n"),
+    # true and fail as they stand; brackets
+    (99, b":-mode p.p:-true.p.p:-fail,(true;((p;p),p;p)).", ":- mode p.\np:-true.\np.\np:-fail,(true;((p;p),p;p)).\n"),
 ]
 
 # Sheet (free of faults 2 to 8), goal, most steps; open inputs, open outputs, steps.

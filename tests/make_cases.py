@@ -1,6 +1,6 @@
 """Writes the files of cases that crates/engine_cases reads, and what it must write.
 
-python3 tests/make_cases.py read|check|run|list|trace|determinacy
+python3 tests/make_cases.py read|check|run|list|trace|determinacy|format
 
 The cases of a kind are the file of its name in crates/engine_cases/data.  Their outputs
 are a part of crates/engine_cases/stdout, which has the kinds in this order; the file
@@ -20,6 +20,7 @@ from pathlib import Path
 import check_cases
 import determinacy_cases
 import engine
+import format_cases
 import list_cases
 import read_cases
 import run_cases
@@ -56,7 +57,7 @@ def output_parts():
     for line in (CRATE / "parts").read_text().splitlines():
         stage, size = line.split()
         parts[stage], at = output[at : at + int(size)], at + int(size)
-    assert list(parts) == list(STAGES) and at == len(output), "stdout is not as parts says"
+    assert list(parts) == list(STAGES)[: len(parts)] and at == len(output), "stdout is not as parts says"
     return parts
 
 
@@ -199,15 +200,24 @@ def make_determinacy(cases):
     determinacy_cases.at_most_one_line(random.Random(determinacy_cases.SEED + 1), 1_000)
 
 
+def make_format(cases):
+    def add(sheet, room):
+        sheet = as_bytes(sheet)
+        cases.add(b"W" + number_field(room, 3) + text_field(sheet), engine.buffer_after(sheet, room))
+
+    format_cases.make(add, random.Random(format_cases.SEED))
+    format_cases.equal_exactly(random.Random(format_cases.SEED + 1), 4_000)
+
+
 # in the order of the program
 STAGES = {
     "read": make_read, "check": make_check, "run": make_run, "list": make_list, "trace": make_trace,
-    "determinacy": make_determinacy,
+    "determinacy": make_determinacy, "format": make_format,
 }
 
 
 def kind_of(output):
-    """accepted, refused with text and number, or end with its kind; a list's lines begin with no word."""
+    """accepted, refused with text and number, or end with its kind; a list's lines begin with no word; of a sheet written afresh, same."""
     words = [line for line in output.decode().splitlines() if line[0].isalpha()][-1].split()
     return " ".join(words[: {"refused": 3, "end": 2}.get(words[0], 1)])
 

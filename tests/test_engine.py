@@ -135,6 +135,17 @@ def test_determinacy():
     expect("both answers are met", 50 < found < 250, True)
 
 
+def test_afresh():
+    """The worked examples, and each output written again."""
+    for room, sheet, output in examples.AFRESH:
+        answer = engine.afresh(sheet, room)
+        if isinstance(answer, engine.Refusal):
+            expect((room, sheet), lines(answer), output)
+        else:
+            expect((room, sheet), answer.decode(), output)
+            expect(output, engine.afresh(answer, len(answer)), answer)
+
+
 def test_counts():
     for sheet, goal, steps, counts in examples.COUNTS:
         expect((sheet, goal), engine.open_counts(sheet, goal, steps), counts)
@@ -162,7 +173,7 @@ def test_large_terms():
 def run():
     """Whether the engine gives what the worked examples say."""
     tests = test_reading, test_checking, test_lists, test_searches
-    for test in (*tests, test_determinacy, test_running, test_traces, test_counts, test_large_terms):
+    for test in (*tests, test_determinacy, test_afresh, test_running, test_traces, test_counts, test_large_terms):
         test()
     print("%d passed, %d failed" % (passed, failed))
     return failed == 0

@@ -1,6 +1,6 @@
 """Runs crates/engine_cases on the cases of one kind by `rt try`, which compiles it without a proof.
 
-python3 tests/try_cases.py read|check|run|list|trace|determinacy
+python3 tests/try_cases.py read|check|run|list|trace|determinacy|format
 
 The program finds the file of that kind alone: a file that is not there counts as empty.  `rt try`
 takes at most 1,048,576 bytes of output, less than the cases of all kinds have.  It compiles with tests of

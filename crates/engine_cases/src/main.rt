@@ -6,6 +6,7 @@
 mod case;
 mod check_case;
 mod determinacy_case;
+mod format_case;
 mod list_case;
 mod numbers;
 mod read_case;
@@ -16,6 +17,7 @@ mod run_case;
 use case::{Case, answer_all};
 use check_case::CheckCase;
 use determinacy_case::DeterminacyCase;
+use format_case::FormatCase;
 use input::read_file;
 use list_case::ListCase;
 use read_case::ReadCase;
@@ -40,5 +42,6 @@ fn main(rt: HostRuntime) -> Result<()> {
     answer_file::<RunCase, _>(&rt, "run", &mut room)?;
     answer_file::<ListCase, _>(&rt, "list", &mut room)?;
     answer_file::<RunCase, _>(&rt, "trace", &mut room)?;
-    answer_file::<DeterminacyCase, _>(&rt, "determinacy", &mut room)
+    answer_file::<DeterminacyCase, _>(&rt, "determinacy", &mut room)?;
+    answer_file::<FormatCase, _>(&rt, "format", &mut room)
 }

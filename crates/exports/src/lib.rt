@@ -1,4 +1,5 @@
-// Reading, checking and running for programs in other languages: include/pilvaust.h. Each answer is a list of numbers (`Told` of specs/ here; `Numbers` and
+// Reading, checking, running and writing afresh for programs in other languages: include/pilvaust.h. Each answer is a list of numbers (`Told` of specs/ here;
+// `Numbers` and
 // `EntriesNumbers` of output/specs), of which a lent slice takes as many as fit; the rest of the slice stays as it was.
 
 #![tactic(auto)]
@@ -10,7 +11,8 @@ ghost use Rattle.mode_rules.specs.Checking.{check_verdict, check_goal_verdict};
 ghost use Rattle.machine.specs.Runs.{run_outcome, run_text};
 ghost use Rattle.machine.specs.Traces.{traced_outcome};
 ghost use Rattle.output.specs.EntriesNumbers.{version, entry_numbers};
-ghost use Rattle.output.specs.Numbers.{verdict_numbers, refusal_in};
+ghost use Rattle.output.specs.Numbers.{verdict_numbers, format_numbers, refusal_in};
+ghost use Rattle.format_rules.specs.Formatting.{formatting, format_answer, format_buffer};
 ghost use Rattle.machine.specs.Determinacy.{judged};
 ghost use Rattle.marks.specs.Searching.{whole_entries, look_up};
 ghost use Rattle.determinacy.specs.Told.{told};
@@ -188,4 +190,16 @@ pub extern "C" fn pilvaust_run_traced(
         pilvaust::run_traced(sheet, goal, trace, asked, text),
         numbers,
     )
+}
+
+/// Writes an accepted sheet afresh, in its one spelling, at the beginning of `out`: writes the numbers of the answer, the length behind the fault, and returns
+/// that of the refusal, 0 where the sheet is written. Refusals are the sheet's, 2 to 10 and 16, then 11.
+#[unsafe(no_mangle)]
+pub extern "C" fn pilvaust_format(sheet: &[u8], out: &mut [u8], numbers: &mut [usize]) -> usize
+    ensures is { result ≡ refusal_in (format_numbers (format_answer (formatting (length out.old) sheet.now))) }
+    ensures out { out.new ≡ format_buffer (formatting (length out.old) sheet.now) out.old }
+    ensures numbers { numbers.new ≡ sets numbers.old 0
+        (format_numbers (format_answer (formatting (length out.old) sheet.now))) }
+{
+    output::numbers::put_format(pilvaust::format(sheet, out), numbers)
 }

@@ -4,7 +4,7 @@ use Rattle.syntax.specs.declared.Entry.{Entry}
 
 -- which of the lists of numbers, and of the functions that give them, a library has
 abbrev pub version : ℕ
-version = 2
+version = 3
 
 -- a declaration: byte and length of its name, number of arguments; nothing where there is none
 unfoldable pub entry_numbers : Option Entry → List ℕ

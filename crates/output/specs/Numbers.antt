@@ -1,5 +1,6 @@
 -- The answers of reading, checking and running as lists of numbers, for callers in other languages. Unused places are 0, as in RULES.
-use Rattle.std.specs.Prelude.{ℕ, List, [], ◌∷◌, ◌++◌, get_or, Ok, Err}
+use Rattle.std.specs.Prelude.{ℕ, List, [], ◌∷◌, ◌++◌, get_or, Result, Ok, Err}
+use Rattle.syntax.specs.declared.Fault.{Fault}
 use Rattle.syntax.specs.Verdicts.{Run}
 use Rattle.syntax.specs.Verdicts.{Verdict}
 use Rattle.output.specs.Reports.{kind_number}
@@ -19,6 +20,11 @@ unfoldable pub run_numbers : Run → ℕ → List ℕ
 run_numbers (Ok report) bytes = no_fault ++ (kind_number report.kind ∷ report.answers ∷ report.steps ∷ bytes ∷ [])
 run_numbers (Err fault) bytes = fault_numbers fault.text fault.refusal ++ (0 ∷ 0 ∷ 0 ∷ 0 ∷ [])
 
--- the refusal's number in either list, 0 where there is none
+-- the answer to a sheet written afresh: its fault, then the length written
+unfoldable pub format_numbers : Result ℕ Fault → List ℕ
+format_numbers (Ok bytes) = no_fault ++ (bytes ∷ [])
+format_numbers (Err fault) = fault_numbers fault.text fault.refusal ++ (0 ∷ [])
+
+-- the refusal's number in each list, 0 where there is none
 abbrev pub refusal_in : List ℕ → ℕ
 refusal_in numbers = get_or numbers 1 0

@@ -9,7 +9,7 @@ use crate::storing::put_numbers;
 use syntax::Entry;
 
 // The version of the lists of numbers that the library gives.
-const VERSION: usize = 2;
+const VERSION: usize = 3;
 
 /// The version of the lists of numbers that the library gives, as `PILVAUST_VERSION` of include/pilvaust.h.
 pub fn version_number() -> usize

@@ -11,3 +11,4 @@ pub mod PlaybackLaws
 pub mod Ready
 pub mod Tracing
 pub mod Sheets
+mod FormatLaws

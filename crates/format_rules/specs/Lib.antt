@@ -1,0 +1,5 @@
+pub mod Writing
+pub mod Formatting
+pub mod Plain
+pub mod Renaming
+pub mod Claims
