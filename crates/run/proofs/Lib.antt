@@ -15,4 +15,4 @@ mod AnswerLaws
 mod LoopLaws
 mod GoingLaws
 mod RunLaws
-mod ProgramLaws
+pub mod ProgramLaws

@@ -14,9 +14,9 @@ use Rattle.run.specs.declared.telling.LoadedProgram.{LoadedProgram}
 use Rattle.output.specs.declared.results.Written.{Written}
 use Rattle.run.specs.Running.{Runnable, RunWritten}
 use Rattle.run_layout.specs.Rooms.{Zeros}
-use Rattle.run.specs.Programs.{ZeroScratch, Programmed, ProgramLinked}
+use Rattle.run.specs.Programs.{ZeroScratch, LimitedTables, Programmed, LinkedTables, ProgramLinked}
 
-module _ {sheet table : List ℕ} {clauses : ℕ} {goal goals : List ℕ} {literals : ℕ} {names : List ℕ} {count : ℕ} (w : Programmed sheet table clauses goal goals literals names count) where
+module _ {sheet table : List ℕ} {clauses : ℕ} {goal goals : List ℕ} {literals : ℕ} (w : LimitedTables sheet table clauses goal goals literals) where
   pub loads : {nodes symbols : List ℕ} → Zeros nodes_words nodes → Zeros nodes_words symbols → Loadable sheet table clauses goal goals literals nodes symbols
   loads {nodes} {symbols} z y =
       let a : nodes_words ≡ length nodes = z.long in
@@ -64,19 +64,27 @@ module _ {sheet table : List ℕ} {clauses : ℕ} {goal goals : List ℕ} {liter
       unfolding links
       program = p (links x)
 
+      pub linked_tables : LinkedTables sheet goal w.tables.sh w.tables.g nodes symbols code
+      linked_tables = record { ss = loaded.ss; program = program; spelt = loaded.names }
+
+-- the tables, without the names of the goal's variables
+abbrev pub limited_of : {sheet table : List ℕ} {clauses : ℕ} {goal goals : List ℕ} {literals : ℕ} {names : List ℕ} {count : ℕ} → Programmed sheet table clauses goal goals literals names count → LimitedTables sheet table clauses goal goals literals
+limited_of w = record { tables = w.tables; limits = w.limits; goal_limits = w.goal_limits }
+
 -- what is loaded and linked, as one value
 module _ (l : LoadedProgram) {table : List ℕ} {clauses : ℕ} {goals : List ℕ} {literals : ℕ} (w : Programmed l.sheet.now table clauses l.goal.now goals literals l.names.now l.count)
-    {nodes0 symbols0 code0 : List ℕ} (z : Zeros nodes_words nodes0) (y : Zeros nodes_words symbols0) (a : length l.nodes.now ≡ length nodes0)
-    (k : (v : Loadable l.sheet.now table clauses l.goal.now goals literals nodes0 symbols0) → Loaded l.sheet.now l.goal.now v.tables.sh v.tables.g l.nodes.now l.symbols.now)
-    (x : Zeros code_words code0) (p : (v : Linkable table clauses goals literals l.nodes.now code0) → Program v.ss v.sh v.g l.nodes.now l.code.now) where
-  pub linked : ProgramLinked l
+    (k : (v : LimitedTables l.sheet.now table clauses l.goal.now goals literals) → LinkedTables l.sheet.now l.goal.now v.tables.sh v.tables.g l.nodes.now l.symbols.now l.code.now) where
+  pub linked_here : LinkedTables l.sheet.now l.goal.now w.tables.sh w.tables.g l.nodes.now l.symbols.now l.code.now
+  linked_here = k (limited_of w)
+
+  unfoldable pub linked : ProgramLinked l
   linked =
       record {
-        ss = (loaded w z y a k).ss;
+        ss = linked_here.ss;
         sh = w.tables.sh;
         g = w.tables.g;
-        program = program w z y a k x p;
-        spelt = record { spelt = (loaded w z y a k).names; named = w.named; names_are = w.names_are };
+        program = linked_here.program;
+        spelt = record { spelt = linked_here.spelt; named = w.named; names_are = w.names_are };
       }
 
   pub program_runs : {allowance wanted : ℕ} {old new : List ℕ} {r : Written} → ((v : ProgramLinked l) → RunWritten v.sh v.g allowance wanted old new r) → RunWritten w.tables.sh w.tables.g allowance wanted old new r
@@ -84,7 +92,7 @@ module _ (l : LoadedProgram) {table : List ℕ} {clauses : ℕ} {goals : List �
   program_runs q = q linked
 
 module _ {l : LoadedProgram} (w : ProgramLinked l) where
-  pub runnable : {state scratch text : List ℕ} → Zeros state_words state → ZeroScratch scratch (length text) → Runnable l state scratch text
+  unfoldable pub runnable : {state scratch text : List ℕ} → Zeros state_words state → ZeroScratch scratch (length text) → Runnable l state scratch text
   runnable {state} {scratch} {text} z y =
       let a : state_words ≡ length state = z.long in
       let b : Roomy scratch = y.roomy in

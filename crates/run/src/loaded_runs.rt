@@ -2,7 +2,9 @@
 
 ghost use Rattle.std.specs.Prelude.{length};
 ghost use Rattle.run.specs.Running.{RunWritten};
-ghost use Rattle.run.specs.Programs.{RoomFor, ZeroScratch, Programmed, ProgramLinked};
+ghost use Rattle.run.specs.Programs.{RoomFor, ZeroScratch, LimitedTables, Programmed, LinkedTables, ProgramLinked};
+ghost use Rattle.run_layout.specs.Regions.{nodes_words, code_words};
+ghost use Rattle.run_layout.specs.Rooms.{Zeros};
 
 use crate::telling::LoadedProgram;
 use crate::whole_runs::run;
@@ -63,6 +65,23 @@ fn choose_room(loaded: LoadedProgram, text: &mut [u8], allowance: usize, wanted:
     with_room::<NARROW_WORDS>(loaded, text, allowance, wanted, again)
 }
 
+/// Loads and links a sheet and a goal that were read, into cleared tables.
+pub fn load_program(
+    sheet: ReadSheet<'_>,
+    goal: ReadGoal<'_>,
+    nodes: &mut [u32],
+    symbols: &mut [u32],
+    code: &mut [u32],
+)
+    requires tables { LimitedTables sheet.text.now sheet.table.now sheet.clauses goal.text.now goal.table.now goal.literals }
+    requires zeros { Zeros nodes_words nodes.old × (Zeros nodes_words symbols.old × Zeros code_words code.old) }
+    ensures { (w : LimitedTables sheet.entry.text.now sheet.entry.table.now sheet.entry.clauses goal.entry.text.now goal.entry.table.now
+        goal.entry.literals) → LinkedTables sheet.entry.text.now goal.entry.text.now w.tables.sh w.tables.g nodes.new symbols.new code.new }
+{
+    load_nodes(sheet, goal, nodes, symbols);
+    link(sheet, goal, nodes, code);
+}
+
 /// Runs a goal that was read over a sheet that was read: at most `allowance` steps, until `wanted` answers are written, their lines from the start of `text`
 /// on. `names` holds the packed names of the goal's variables, `count` of them.
 pub fn load_and_run(
@@ -81,8 +100,7 @@ pub fn load_and_run(
     let mut nodes: [u32; NODES_WORDS] = cleared();
     let mut symbols: [u32; NODES_WORDS] = cleared();
     let mut code: [u32; CODE_WORDS] = cleared();
-    load_nodes(sheet, goal, &mut nodes, &mut symbols);
-    link(sheet, goal, &nodes, &mut code);
+    load_program(sheet, goal, &mut nodes, &mut symbols, &mut code);
     let loaded = LoadedProgram {
         sheet: sheet.text,
         goal: goal.text,

@@ -79,8 +79,8 @@ pub fn next_of(
     Next::Step
 }
 
-// The trail undone to the top's mark, which is its length then.
-fn rewind(state: &mut [u32], pile: PileHeight) -> usize
+/// The trail undone to the top's mark, which is its length then.
+pub fn rewind(state: &mut [u32], pile: PileHeight) -> usize
     requires { Rewindable state.old pile.height pile.trail }
     ensures { Rewound state.old state.new pile.height pile.trail result }
 {
@@ -89,9 +89,9 @@ fn rewind(state: &mut [u32], pile: PileHeight) -> usize
     s.mark
 }
 
-// Writes the line of an answer from `at` on and returns the position past it; None where it does not fit. The brackets open in a term stand in the scratch
-// words behind marks and queue.
-fn tell(
+/// Writes the line of an answer from `at` on and returns the position past it; None where it does not fit. The brackets open in a term stand in the scratch
+/// words behind marks and queue.
+pub fn tell(
     loaded: LoadedProgram,
     state: &[u32],
     scratch: &mut [u32],
