@@ -33,6 +33,19 @@ unsafe extern "C" {
         numbers: *mut usize,
         numbers_len: usize,
     ) -> usize;
+    /// Workings of a goal checked: 0 where they are accepted, and the line's length among the numbers.
+    fn pilvaust_check_workings(
+        sheet: *const u8,
+        len: usize,
+        goal: *const u8,
+        goal_len: usize,
+        workings: *const u8,
+        workings_len: usize,
+        text: *mut u8,
+        room: usize,
+        numbers: *mut usize,
+        numbers_len: usize,
+    ) -> usize;
     /// The C library's: the CPU time of this process, in microseconds.
     fn clock() -> i64;
 }
@@ -68,6 +81,8 @@ const MOST_MICROSECONDS: f64 = 2_000.0;
 const MOST_OF_SWI: f64 = 0.05;
 const MOST_RUN_GROWTH: f64 = 12.0;
 const MOST_OF_READING: f64 = 0.5;
+const WORKINGS_NUMBERS: usize = 9;
+const MOST_OF_RUN: f64 = 1.0;
 const SHEET_FILE: &str = "bench/out/sheet.pl";
 const GOAL_FILE: &str = "bench/out/goal.pl";
 
@@ -142,6 +157,30 @@ fn run(case: &Case, allowance: usize) -> Report {
     assert_eq!(refusal, 0, "{}: refused {numbers:?}", case.name);
     black_box(&text);
     Report { kind: numbers[KIND], answers: numbers[ANSWER_COUNT], steps: numbers[STEP_COUNT] }
+}
+
+/// A goal replayed over a sheet by some workings: the number of the refusal, 0 where they are accepted.
+fn replay(case: &Case, workings: &[u8]) -> usize {
+    let (sheet, goal) = (black_box(case.sheet.as_bytes()), black_box(case.goal.as_bytes()));
+    let mut text = [0; ROOM];
+    let mut numbers = [0; WORKINGS_NUMBERS];
+    // SAFETY: as for `run`, and so many bytes of `workings`.
+    let refusal = unsafe {
+        pilvaust_check_workings(
+            sheet.as_ptr(),
+            sheet.len(),
+            goal.as_ptr(),
+            goal.len(),
+            workings.as_ptr(),
+            workings.len(),
+            text.as_mut_ptr(),
+            ROOM,
+            numbers.as_mut_ptr(),
+            WORKINGS_NUMBERS,
+        )
+    };
+    black_box(&text);
+    refusal
 }
 
 /// A sheet of that many bytes: groups of 256 bytes, each filled up by a comment.
@@ -241,6 +280,27 @@ fn plus() -> Case {
     let goal =
         format!("A = {}, B = {}, C = {}, add(C,C,X).", nested("s", 16, "z"), nested("s", 16, "A"), nested("s", 8, "B"));
     Case { name: "plus", sheet: sheet.to_string(), goal, answers: 1 }
+}
+
+/// 240 levels gone down, each step on the way to the answer.
+fn down() -> Case {
+    let sheet = ":- mode down(+).\n\
+        down(s(N)) :- down(N).\n\
+        down(z).\n";
+    let levels: String = (0..15)
+        .rev()
+        .map(|n| {
+            let inner = if n == 14 { "z".to_string() } else { format!("T{}", n + 1) };
+            format!("T{n} = {}, ", nested("s", 16, &inner))
+        })
+        .collect();
+    Case { name: "down", sheet: sheet.to_string(), goal: levels + "down(T0).", answers: 1 }
+}
+
+/// Goals with the workings of their answer: a clause so many times, and then another.
+fn replayed() -> [(Case, Vec<u8>); 2] {
+    let workings = |times: usize, again: u8, last: u8| [[1, again, 0].repeat(times), vec![1, last, 0]].concat();
+    [(plus(), workings(40, 2, 1)), (down(), workings(240, 1, 2))]
 }
 
 /// From each of ten nodes an edge to the next and to the one after it: 55 paths from the first to the last.
@@ -445,6 +505,41 @@ fn run_growth() -> f64 {
     largest
 }
 
+/// The CPU time of a replay in microseconds, over so many.
+fn replay_microseconds(case: &Case, workings: &[u8], runs: usize) -> f64 {
+    // SAFETY: as in `run_microseconds`.
+    let now = || unsafe { clock() };
+    let start = now();
+    for _ in 0..runs {
+        black_box(replay(case, workings));
+    }
+    (now() - start) as f64 / runs as f64
+}
+
+/// The largest part of the time of a run's steps that the moves of a replay to the same answer take: both without what a run of one step takes, and
+/// a replay of no records up to its first call.
+fn of_run() -> f64 {
+    println!("{:10} {:>10} {:>10} {:>6} {:>6} {:>6}", "replayed", "run", "replay", "ratio", "steps", "records");
+    let mut largest: f64 = 0.0;
+    for (case, workings) in replayed() {
+        assert_eq!((run(&case, STEPS).answers, replay(&case, &workings)), (1, 0), "{}", case.name);
+        let equations = case.goal.matches('=').count() + 1;
+        let (mut runs, mut replays, mut parts) = (Vec::new(), Vec::new(), Vec::new());
+        for _ in 0..BATCHES {
+            let run = run_microseconds(&case, STEPS, RUNS) - run_microseconds(&case, equations, RUNS);
+            let replay = replay_microseconds(&case, &workings, RUNS) - replay_microseconds(&case, &[], RUNS);
+            runs.push(run);
+            replays.push(replay);
+            parts.push(replay / run);
+        }
+        let (run_time, replay_time, part) = (median(runs), median(replays), median(parts));
+        let (steps, records) = (run(&case, STEPS).steps, workings.len() / 3);
+        println!("{:10} {run_time:7.1} µs {replay_time:7.1} µs {part:6.2} {steps:6} {records:6}", case.name);
+        largest = largest.max(part);
+    }
+    largest
+}
+
 /// Runs beside SWI-Prolog, and how long a step takes.
 fn runs_beside_swi() {
     println!(
@@ -494,6 +589,14 @@ fn once(name: &str) {
             black_box(run(&case, STEPS));
         }
     }
+    for (case, workings) in replayed() {
+        if name == format!("replay-{}", case.name) {
+            black_box(replay(&case, &workings));
+        }
+        if name == format!("run-{}", case.name) {
+            black_box(run(&case, STEPS));
+        }
+    }
 }
 
 fn main() {
@@ -504,6 +607,7 @@ fn main() {
     let (checked, of_swi) = beside_swi();
     let of_reading = of_reading();
     let run_growth = run_growth();
+    let of_run = of_run();
     runs_beside_swi();
     let mut failed = false;
     for (what, figure, most) in [
@@ -512,6 +616,7 @@ fn main() {
         ("of SWI-Prolog's time to load it", of_swi, MOST_OF_SWI),
         ("of the time of reading it to write it afresh", of_reading, MOST_OF_READING),
         ("largest ratio of run times", run_growth, MOST_RUN_GROWTH),
+        ("of the time of a run's steps to replay its answer", of_run, MOST_OF_RUN),
     ] {
         println!("{figure:.3} {what}, to be at most {most}");
         failed |= figure > most;

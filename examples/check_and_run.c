@@ -1,9 +1,10 @@
-/* check_and_run SHEET [GOAL]: checks a sheet and prints it written afresh, or runs a goal over it and prints the answers; or the whole fault. C11 and C++. */
+/* check_and_run SHEET [GOAL [WORKINGS]]: checks a sheet and prints it written afresh, or runs a goal over it and prints the answers, or checks workings of the
+ * goal, whose bytes are written in hexadecimal, and prints the answer; or the whole fault. C11 and C++. */
 #include <stdio.h>
 #include <string.h>
 #include "pilvaust.h"
 
-static const char *const texts[] = {"neither text", "sheet", "goal"};
+static const char *const texts[] = {"neither text", "sheet", "goal", "trace", "workings"};
 static const char *const kinds[] = {"wanted", "done", "steps", "full", "deep"};
 
 /* The five numbers of a refusal, and the name where it stands in the text at fault. */
@@ -61,11 +62,27 @@ static int write_afresh(const char *sheet)
     return 0;
 }
 
+static int check_workings(const char *sheet, const char *goal, const char *written)
+{
+    size_t numbers[PILVAUST_WORKINGS_NUMBERS], count = 0;
+    uint8_t workings[1024], text[4096];
+    unsigned byte;
+    while (count < sizeof workings && sscanf(written + 2 * count, "%2x", &byte) == 1)
+        workings[count++] = (uint8_t)byte;
+    if (pilvaust_check_workings((const uint8_t *)sheet, strlen(sheet), (const uint8_t *)goal, strlen(goal), workings, count, text, sizeof text, numbers,
+                                PILVAUST_WORKINGS_NUMBERS) != PILVAUST_NONE)
+        return show_fault(numbers, sheet, goal);
+    fwrite(text, 1, numbers[PILVAUST_LINE_BYTES], stdout);
+    return 0;
+}
+
 int main(int argc, char **argv)
 {
     if (argc < 2 || pilvaust_version() != PILVAUST_VERSION)
         return 2;
     if (check(argv[1]) != 0)
         return 1;
-    return argc < 3 ? write_afresh(argv[1]) : run(argv[1], argv[2]);
+    if (argc < 3)
+        return write_afresh(argv[1]);
+    return argc < 4 ? run(argv[1], argv[2]) : check_workings(argv[1], argv[2], argv[3]);
 }

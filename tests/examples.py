@@ -7,6 +7,8 @@ goal, what the runner would print with the mark for a sheet stored earlier.
 TRACED: sheet, goal, trace, what the runner prints.  DETERMINATE: sheet, the
 line for REQUESTS (xii): yes, no with two clause numbers, or the refusal.
 AFRESH: room, sheet, its one spelling by REQUESTS (iv), or the refusal's line.
+WORKINGS: room, sheet, goal, workings, the line of the answer or of the refusal by
+REQUESTS (xi).
 The outputs are written by hand from RULES and REQUESTS, never taken from the engine.
 """
 
@@ -514,6 +516,56 @@ AFRESH = [
     (99, b":-mode p(*,*,*,*).p(00,010,a01,7).", ":- mode p(*,*,*,*).\np(0,10,a01,7).\n"),
     # true and fail as they stand; brackets
     (99, b":-mode p.p:-true.p.p:-fail,(true;((p;p),p;p)).", ":- mode p.\np:-true.\np.\np:-fail,(true;((p;p),p;p)).\n"),
+]
+
+# REQUESTS (xi) and the rulings on it.
+AB, QA, A = b":-mode p(*). p(a). p(b).", b":-mode p(*). :-mode q. q. p(a).", b":-mode p(*). p(a)."
+WORKINGS = [
+    # sides and clauses, in the order leftmost resolution meets them
+    (99, AB, b"(p(X);X=c), X = Y.", b"\2\1\2\0", "X = b, Y = b"),
+    (99, AB, b"(p(X);X=c), X = Y.", b"\3", "X = c, Y = c"),
+    (99, AB, b"(p(X);X=c), X = Y.", b"\3\1\2\0", "refused workings 17 1 0 0 0"),
+    (99, AB, b"(p(X);X=c), X = Y.", b"\1\2\0", "refused workings 17 0 0 0 0"),
+    (99, AB, b"(p(X);X=c), X = Y.", b"\2\2", "refused workings 17 1 0 0 0"),
+    (99, AB, b"(p(X);X=c), X = Y.", b"\2", "refused workings 17 1 0 0 0"),
+    (99, AB, b"(p(X);X=c), X = Y.", b"", "refused workings 17 0 0 0 0"),
+    # the number is the sheet's: from 1, of all predicates; low byte first
+    (99, QA, b"p(X).", b"\1\2\0", "X = a"),
+    (99, QA, b"p(X).", b"\1\1\0", "refused workings 17 0 0 0 0"),
+    (99, QA, b"p(X).", b"\1\0\0", "refused workings 17 0 0 0 0"),
+    (99, QA, b"p(X).", b"\1\3\0", "refused workings 17 0 0 0 0"),
+    (99, QA, b"p(X).", b"\1\2\1", "refused workings 17 0 0 0 0"),
+    (99, b":-mode p(*). :-mode p(*,*). p(a,b). p(a).", b"p(X).", b"\1\1\0", "refused workings 17 0 0 0 0"),
+    # a record is used up once all before the next call or bracket has gone through
+    (99, A, b"p(X), p(Y), X = b.", b"\1\1\0\1\1\0", "refused workings 17 3 0 0 0"),
+    (99, A, b"p(X), X = b, p(Y).", b"\1\1\0\1\1\0", "refused workings 17 0 0 0 0"),
+    (99, A, b"a = b, p(X).", b"\x09\x09", "refused workings 17 0 0 0 0"),
+    (99, A, b"p(X), fail, p(Y).", b"\1\1\0\x09", "refused workings 17 0 0 0 0"),
+    (99, b"", b"(true;fail).", b"\3", "refused workings 17 0 0 0 0"),
+    (99, b"", b"(true;fail).", b"\2", "yes"),
+    # run out: the length; over: the first of them; cut short: its start
+    (99, A, b"p(X), p(Y).", b"\1\1\0", "refused workings 17 3 0 0 0"),
+    (99, A, b"p(X).", b"\1\1\0\x09", "refused workings 17 3 0 0 0"),
+    (99, A, b"p(X).", b"\1\1\0\2\x09", "refused workings 17 3 0 0 0"),
+    (99, A, b"p(X).", b"\1\1", "refused workings 17 0 0 0 0"),
+    (99, A, b"p(X), p(Y).", b"\1\1\0\1\1", "refused workings 17 3 0 0 0"),
+    (99, A, b"p(X).", b"\0", "refused workings 17 0 0 0 0"),
+    (99, A, b"p(X).", b"\4", "refused workings 17 0 0 0 0"),
+    # no records; the line and its room
+    (99, b"", b"true.", b"", "yes"),
+    (99, b"", b"fail.", b"", "refused workings 17 0 0 0 0"),
+    (99, b"", b"true.", b"\x09", "refused workings 17 0 0 0 0"),
+    (4, b"", b"true.", b"", "yes"),
+    (3, b"", b"true.", b"", "refused 18 0 0 0 0"),
+    (3, b"", b"true.", b"\2", "refused workings 17 0 0 0 0"),
+    # path 255 is not passed, and a bracket does not lengthen it
+    (99, b":-mode l. l:-l. l.", b"l.", b"\1\1\0" * 254 + b"\1\2\0", "yes"),
+    (99, b":-mode l. l:-l. l.", b"l.", b"\1\1\0" * 255 + b"\1\2\0", "refused workings 17 765 0 0 0"),
+    (99, b":-mode l. l:-(l;true).", b"l.", b"\1\1\0\2" * 254 + b"\1\1\0\3", "yes"),
+    # the sheet's refusals, 16 too, then the goal's
+    (99, b":-mode p.", b"p", b"\x09", "refused sheet 16 7 0 0 0"),
+    (99, b"", b"p.", b"\x09", "refused goal 8 0 0 1 0 p"),
+    (99, b":-mode p(+). p(a).", b"p(X).", b"\x09", "refused goal 9 2 0 1 1 p"),
 ]
 
 # Sheet (free of faults 2 to 8), goal, most steps; open inputs, open outputs, steps.

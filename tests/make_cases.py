@@ -1,6 +1,6 @@
 """Writes the files of cases that crates/engine_cases reads, and what it must write.
 
-python3 tests/make_cases.py read|check|run|list|trace|determinacy|format
+python3 tests/make_cases.py read|check|run|list|trace|determinacy|format|workings
 
 The cases of a kind are the file of its name in crates/engine_cases/data.  Their outputs
 are a part of crates/engine_cases/stdout, which has the kinds in this order; the file
@@ -26,6 +26,8 @@ import read_cases
 import run_cases
 import test_engine
 import trace_cases
+import workings
+import workings_cases
 import written
 
 CRATE = Path(__file__).resolve().parent.parent / "crates" / "engine_cases"
@@ -40,7 +42,10 @@ class CaseFile:
         self.outputs = {}
 
     def add(self, record, answer):
-        self.outputs.setdefault(record, engine.printed(answer))
+        self.add_printed(record, engine.printed(answer))
+
+    def add_printed(self, record, output):
+        self.outputs.setdefault(record, output)
 
     def write(self, stage):
         cases, parts = b"".join(self.outputs), output_parts()
@@ -209,16 +214,27 @@ def make_format(cases):
     format_cases.equal_exactly(random.Random(format_cases.SEED + 1), 4_000)
 
 
+def make_workings(cases):
+    def add(sheet, goal, records, room):
+        sheet, goal = as_bytes(sheet), as_bytes(goal)
+        record = b"V" + number_field(room, 3) + b"".join(map(text_field, (sheet, goal, records)))
+        cases.add_printed(record, workings.text_after(sheet, goal, records, room))
+
+    workings_cases.make(add)
+
+
 # in the order of the program
 STAGES = {
     "read": make_read, "check": make_check, "run": make_run, "list": make_list, "trace": make_trace,
-    "determinacy": make_determinacy, "format": make_format,
+    "determinacy": make_determinacy, "format": make_format, "workings": make_workings,
 }
 
 
 def kind_of(output):
-    """accepted, refused with text and number, or end with its kind; a list's lines begin with no word; of a sheet written afresh, same."""
+    """accepted, refused with text and number, or end with its kind; a list's lines begin with no word; of a sheet written afresh, same; of workings, answer or the refusal."""
     words = [line for line in output.decode().splitlines() if line[0].isalpha()][-1].split()
+    if "=" in words:
+        return "answer"
     return " ".join(words[: {"refused": 3, "end": 2}.get(words[0], 1)])
 
 

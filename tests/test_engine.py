@@ -8,6 +8,7 @@ import engine
 import examples
 import random_sheets
 import run_cases
+import workings
 
 passed = failed = 0
 
@@ -146,6 +147,19 @@ def test_afresh():
             expect(output, engine.afresh(answer, len(answer)), answer)
 
 
+def test_workings():
+    """The worked examples; then those of each answer of the worked runs, and of runs by chance, with room for the line and with less."""
+    for room, sheet, goal, records, output in examples.WORKINGS:
+        answer = workings.check(sheet, goal, records, room)
+        expect((room, sheet, goal, records), (answer if isinstance(answer, bytes) else engine.printed(answer)).decode(), output + "\n")
+    rng = random.Random(11)
+    runs = [texts[:2] for texts in examples.RUNS] + [tuple(text.encode() for text in random_sheets.runnable(rng)) for _ in range(200)]
+    for sheet, goal in runs:
+        for line, records in workings.recorded(sheet, goal, 3_000, 16, 4_096):
+            expect((sheet, goal, records), workings.check(sheet, goal, records, len(line)), line)
+            expect((sheet, goal, records), workings.check(sheet, goal, records, len(line) - 1), engine.Refusal("", 18, 0, 0, 0, 0, b""))
+
+
 def test_counts():
     for sheet, goal, steps, counts in examples.COUNTS:
         expect((sheet, goal), engine.open_counts(sheet, goal, steps), counts)
@@ -173,7 +187,7 @@ def test_large_terms():
 def run():
     """Whether the engine gives what the worked examples say."""
     tests = test_reading, test_checking, test_lists, test_searches
-    for test in (*tests, test_determinacy, test_afresh, test_running, test_traces, test_counts, test_large_terms):
+    for test in (*tests, test_determinacy, test_afresh, test_workings, test_running, test_traces, test_counts, test_large_terms):
         test()
     print("%d passed, %d failed" % (passed, failed))
     return failed == 0

@@ -43,6 +43,10 @@ ghost use Rattle.output.specs.Prints.{printed_run};
 ghost use Rattle.starred_cases.specs.Programs.{runner, runner_settings, runner_text};
 ghost use Rattle.starred_cases.specs.Cases.{printed, expected};
 ghost use Rattle.claims.specs.Examples.{at_most, plus, plus_goal, plus_line};
+ghost use Rattle.format_rules.specs.Claims.{EqualExactlyButForNames, WrittenAgainTheSame, ReadBackTheSame};
+ghost use Rattle.derivations.specs.Workings.{Records, replay, begun as replayed};
+ghost use Rattle.derivations.specs.Derivations.{ReplaysExactly, ByteIsRight};
+ghost use Rattle.derivations.specs.Outcomes.{EveryOutcomeIsRight, EveryAnswerHasWorkings};
 ghost use Rattle.claims.specs.Names.{NameInside};
 ghost use Rattle.claims.specs.Piles.{PathsWithin};
 
@@ -249,4 +253,33 @@ pub fn runner_prints_what_rules_says()
 /// The list of cases of RULES: each text with the output that stands beside it.
 pub fn listed_cases_hold()
     ensures { printed ≡ expected }
+{}
+
+// ---- a sheet written afresh
+
+/// Two sheets both written have equal output exactly when their declarations agree in order, and their clauses too, up to names of variables and leading zeros of
+/// numerals. The output is accepted, and writing it afresh changes no byte. What is written reads back as the same sheet, but for places.
+pub fn equal_sheets_are_written_alike()
+    ensures exactly { EqualExactlyButForNames }
+    ensures again { WrittenAgainTheSame }
+    ensures back { ReadBackTheSame }
+{}
+
+// ---- workings of another engine
+
+/// Workings are accepted exactly when they are the records of a derivation of the goal by leftmost resolution. The line is that of its most general answer. The
+/// byte of refusal 17 is the length of the longest beginning that is used up.
+pub fn outcomes_are_right()
+    ensures { EveryOutcomeIsRight }
+{}
+
+/// The same of records and the replay of a goal by them.
+pub fn replays_are_right()
+    ensures exactly { (sh : Sheet) (g : Goal) (rs : Records) → ReplaysExactly sh g rs (replay sh rs (replayed g)) }
+    ensures byte { (sh : Sheet) (g : Goal) (rs : Records) → ByteIsRight sh g rs (replay sh rs (replayed g)) }
+{}
+
+/// Every answer of a run without a trace and without the mark for a sheet stored earlier has workings that are accepted with the same line, given room for it.
+pub fn every_answer_has_workings()
+    ensures { EveryAnswerHasWorkings }
 {}

@@ -13,6 +13,7 @@ mod read_case;
 mod records;
 mod rooms;
 mod run_case;
+mod workings_case;
 
 use case::{Case, answer_all};
 use check_case::CheckCase;
@@ -26,6 +27,7 @@ use run_case::RunCase;
 use std::io;
 use std::io::Result;
 use std::rt::Files;
+use workings_case::WorkingsCase;
 
 // Answers the cases of a file, with room for it. Each kind has a frame of its own: the tables of a run and those of the test for at most one end
 // together pass the usual native stack.
@@ -43,5 +45,6 @@ fn main(rt: HostRuntime) -> Result<()> {
     answer_file::<ListCase, _>(&rt, "list", &mut room)?;
     answer_file::<RunCase, _>(&rt, "trace", &mut room)?;
     answer_file::<DeterminacyCase, _>(&rt, "determinacy", &mut room)?;
-    answer_file::<FormatCase, _>(&rt, "format", &mut room)
+    answer_file::<FormatCase, _>(&rt, "format", &mut room)?;
+    answer_file::<WorkingsCase, _>(&rt, "workings", &mut room)
 }

@@ -11,11 +11,12 @@ ghost use Rattle.mode_rules.specs.Checking.{check_verdict, check_goal_verdict};
 ghost use Rattle.machine.specs.Runs.{run_outcome, run_text};
 ghost use Rattle.machine.specs.Traces.{traced_outcome};
 ghost use Rattle.output.specs.EntriesNumbers.{version, entry_numbers};
-ghost use Rattle.output.specs.Numbers.{verdict_numbers, format_numbers, refusal_in};
+ghost use Rattle.output.specs.Numbers.{verdict_numbers, bytes_numbers, refusal_in};
 ghost use Rattle.format_rules.specs.Formatting.{formatting, format_answer, format_buffer};
 ghost use Rattle.machine.specs.Determinacy.{judged};
 ghost use Rattle.marks.specs.Searching.{whole_entries, look_up};
 ghost use Rattle.determinacy.specs.Told.{told};
+ghost use Rattle.derivations.specs.Workings.{workings_outcome, workings_answer, workings_text};
 ghost use Rattle.exports.specs.Runs.{asking, outcome_numbers};
 ghost use Rattle.exports.specs.Told.{lookup_numbers, determinacy_numbers};
 
@@ -196,10 +197,31 @@ pub extern "C" fn pilvaust_run_traced(
 /// that of the refusal, 0 where the sheet is written. Refusals are the sheet's, 2 to 10 and 16, then 11.
 #[unsafe(no_mangle)]
 pub extern "C" fn pilvaust_format(sheet: &[u8], out: &mut [u8], numbers: &mut [usize]) -> usize
-    ensures is { result ≡ refusal_in (format_numbers (format_answer (formatting (length out.old) sheet.now))) }
+    ensures is { result ≡ refusal_in (bytes_numbers (format_answer (formatting (length out.old) sheet.now))) }
     ensures out { out.new ≡ format_buffer (formatting (length out.old) sheet.now) out.old }
     ensures numbers { numbers.new ≡ sets numbers.old 0
-        (format_numbers (format_answer (formatting (length out.old) sheet.now))) }
+        (bytes_numbers (format_answer (formatting (length out.old) sheet.now))) }
 {
-    output::numbers::put_format(pilvaust::format(sheet, out), numbers)
+    output::numbers::put_bytes(pilvaust::format(sheet, out), numbers)
+}
+
+/// Checks the workings of a goal, whose answer's line is written to `text` where they are accepted: writes the numbers of the fault and how many bytes the line
+/// has, and returns the number of the refusal, 0 where they are accepted.
+#[unsafe(no_mangle)]
+pub extern "C" fn pilvaust_check_workings(
+    sheet: &[u8],
+    goal: &[u8],
+    workings: &[u8],
+    text: &mut [u8],
+    numbers: &mut [usize],
+) -> usize
+    ensures is { result ≡ refusal_in (bytes_numbers (workings_answer (workings_outcome sheet.now goal.now workings.now (length text.old)))) }
+    ensures text { text.new ≡ sets text.old 0 (workings_text (workings_outcome sheet.now goal.now workings.now (length text.old))) }
+    ensures numbers { numbers.new ≡ sets numbers.old 0
+        (bytes_numbers (workings_answer (workings_outcome sheet.now goal.now workings.now (length text.old)))) }
+{
+    output::numbers::put_bytes(
+        pilvaust::check_workings(sheet, goal, workings, text),
+        numbers,
+    )
 }

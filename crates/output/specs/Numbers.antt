@@ -20,11 +20,11 @@ unfoldable pub run_numbers : Run → ℕ → List ℕ
 run_numbers (Ok report) bytes = no_fault ++ (kind_number report.kind ∷ report.answers ∷ report.steps ∷ bytes ∷ [])
 run_numbers (Err fault) bytes = fault_numbers fault.text fault.refusal ++ (0 ∷ 0 ∷ 0 ∷ 0 ∷ [])
 
--- the answer to a sheet written afresh: its fault, then the length written
-unfoldable pub format_numbers : Result ℕ Fault → List ℕ
-format_numbers (Ok bytes) = no_fault ++ (bytes ∷ [])
-format_numbers (Err fault) = fault_numbers fault.text fault.refusal ++ (0 ∷ [])
+-- the answer to a call that writes bytes: its fault, then how many it has written
+unfoldable pub bytes_numbers : Result ℕ Fault → List ℕ
+bytes_numbers (Ok bytes) = no_fault ++ (bytes ∷ [])
+bytes_numbers (Err fault) = fault_numbers fault.text fault.refusal ++ (0 ∷ [])
 
--- the refusal's number in each list, 0 where there is none
+-- the refusal's number in either list, 0 where there is none
 abbrev pub refusal_in : List ℕ → ℕ
 refusal_in numbers = get_or numbers 1 0

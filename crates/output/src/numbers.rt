@@ -4,7 +4,7 @@
 ghost use Rattle.std.specs.Prelude.{◌≡◌, ◌++◌, ◌≤◌, length};
 ghost use Rattle.std.proofs.lemmas.List.Edits.{sets};
 ghost use Rattle.output.specs.Results.{run_of, bytes_of};
-ghost use Rattle.output.specs.Numbers.{verdict_numbers, run_numbers, format_numbers, refusal_in};
+ghost use Rattle.output.specs.Numbers.{verdict_numbers, run_numbers, bytes_numbers, refusal_in};
 
 use crate::faults::{FAULT, fault_numbers};
 use crate::results::Written;
@@ -61,14 +61,14 @@ pub fn put_run(run: Result<Written, Fault>, out: &mut [usize]) -> usize
     }
 }
 
-/// The answer to a sheet written afresh; returned as above.
-#[tactic(auto, unfolding(crate::specs::Numbers::format_numbers))]
-pub fn put_format(answer: Result<usize, Fault>, out: &mut [usize]) -> usize
-    ensures is { result ≡ refusal_in (format_numbers answer) }
-    ensures numbers { out.new ≡ sets out.old 0 (format_numbers answer) }
+/// The answer to a call that writes so many bytes; returned as above.
+#[tactic(auto, unfolding(crate::specs::Numbers::bytes_numbers))]
+pub fn put_bytes(answer: Result<usize, Fault>, out: &mut [usize]) -> usize
+    ensures is { result ≡ refusal_in (bytes_numbers answer) }
+    ensures numbers { out.new ≡ sets out.old 0 (bytes_numbers answer) }
 {
     match answer {
-        Ok(length) => put_both([0; FAULT], &[length], out),
+        Ok(bytes) => put_both([0; FAULT], &[bytes], out),
         Err(fault) => put_both(fault_numbers(fault), &[0], out),
     }
 }

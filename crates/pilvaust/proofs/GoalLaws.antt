@@ -42,14 +42,14 @@ use Rattle.output.specs.Results.{RunRefused, RunEnded}
 -- ---- the words of a goal's variables
 
 -- as a part of the goal's table
-abbrev last-words : List ℕ → List ℕ
+abbrev pub last-words : List ℕ → List ℕ
 last-words goals = take (length goals - (length goals - variables)) (drop (length goals - variables) goals)
 
-last-met : (goals : List ℕ) → last-words goals ≡ met goals
+pub last-met : (goals : List ℕ) → last-words goals ≡ met goals
 last-met goals = take_all (length goals - (length goals - variables)) (met goals) (simp length-drop (omega arith))
 
 module _ {sheet table : List ℕ} {k : ℕ} {goal goals : List ℕ} {literals count : ℕ} where
-  pub part-programmed : Programmed sheet table k goal goals literals (met goals) count → Programmed sheet table k goal goals literals (last-words goals) count
+  unfoldable pub part-programmed : Programmed sheet table k goal goals literals (met goals) count → Programmed sheet table k goal goals literals (last-words goals) count
   part-programmed w = record {
     tables = w.tables;
     limits = w.limits;
@@ -65,7 +65,7 @@ module _ {sheet table : List ℕ} {k : ℕ} {goal goals : List ℕ} {literals co
 
 -- ---- the length of a goal that is accepted
 
-goal_short : (s : List ℕ) (g : Goal) → goal_outcome s ≡ accepted g → length s ≤ goal_bytes
+pub goal_short : (s : List ℕ) (g : Goal) → goal_outcome s ≡ accepted g → length s ≤ goal_bytes
 unfolding goal_outcome
 goal_short s g e = by (leb (length s) goal_bytes) refl e
   where
@@ -84,11 +84,43 @@ stopped-answers o t q e u eu old =
     }
 
 module _ (s declared : List ℕ) (n : ℕ) (table : List ℕ) (k : ℕ) where
-  abbrev over-of : ProgramReady s declared n table k → SheetTabled s declared n k
+  abbrev pub over-of : ProgramReady s declared n table k → SheetTabled s declared n k
   over-of w = record { sheet = w.stands.sheet; has = w.stands.has_declarations; count = w.stands.declarations_count; clauses = w.stands.clauses_count; stand = w.stands.stands.declarations }
 
   pub ready-declarations : ProgramReady s declared n table k → DeclarationsAt s declared n
   ready-declarations w = sheet-declarations w.stands
+
+  module _ (g goals : List ℕ) (r : GoalRead) (t : GoalTabled g goals (Ok r)) where
+    abbrev pub the-goal : Goal
+    the-goal = (goal-of s declared n k g goals r t).0
+
+    pub goal-at : ProgramReady s declared n table k → GoalAt s declared n g goals r.literals
+    goal-at w = goal-stands-at s declared n k g goals r t (over-of w)
+
+    unfoldable pub goal-programmed : length goals ≤ goal_words → ProgramReady s declared n table k → Programmed s table k g goals r.literals (met goals) r.count
+    goal-programmed short w =
+        let x : GoalInTable g goals r.literals r.count the-goal = standing s declared n k g goals r t in
+        let y : goal_outcome g ≡ accepted the-goal = (goal-of s declared n k g goals r t).1 in
+        record {
+          tables = record {
+            sh = w.stands.sheet;
+            g = the-goal;
+            has_clauses = w.stands.has_clauses;
+            clauses_count = w.stands.clauses_count;
+            clauses_stand = w.stands.stands.clauses;
+            has_goal = x.has;
+            literals_count = x.count;
+            goal_stands = x.stands;
+            sheet_short = w.short;
+            goal_short = goal_short g the-goal y;
+            table_short = w.table_short;
+            goals_short = short;
+          };
+          limits = w.limits;
+          goal_limits = goal-limited g the-goal y;
+          named = x.named;
+          names_are = x.names_are;
+        }
 
   module _ (g goals : List ℕ) (allowance wanted : ℕ) where
     -- the run of the goal, with room for so much text
@@ -104,46 +136,15 @@ module _ (s declared : List ℕ) (n : ℕ) (table : List ℕ) (k : ℕ) where
         stopped-answers (outcome w old) f.text f.refusal (c ∙ ap (λ (y : Text). stopped y f.refusal) (sym o.1)) u eu old
 
     module _ (r : GoalRead) (t : GoalTabled g goals (Ok r)) where
-      abbrev the-goal : Goal
-      the-goal = (goal-of s declared n k g goals r t).0
-
-      pub goal-at : ProgramReady s declared n table k → GoalAt s declared n g goals r.literals
-      goal-at w = goal-stands-at s declared n k g goals r t (over-of w)
-
-      pub goal-programmed : length goals ≤ goal_words → ProgramReady s declared n table k → Programmed s table k g goals r.literals (met goals) r.count
-      goal-programmed short w =
-          let x : GoalInTable g goals r.literals r.count the-goal = standing s declared n k g goals r t in
-          let y : goal_outcome g ≡ accepted the-goal = (goal-of s declared n k g goals r t).1 in
-          record {
-            tables = record {
-              sh = w.stands.sheet;
-              g = the-goal;
-              has_clauses = w.stands.has_clauses;
-              clauses_count = w.stands.clauses_count;
-              clauses_stand = w.stands.stands.clauses;
-              has_goal = x.has;
-              literals_count = x.count;
-              goal_stands = x.stands;
-              sheet_short = w.short;
-              goal_short = goal_short g the-goal y;
-              table_short = w.table_short;
-              goals_short = short;
-            };
-            limits = w.limits;
-            goal_limits = goal-limited g the-goal y;
-            named = x.named;
-            names_are = x.names_are;
-          }
-
       module _ (ck : Checked) (ec : (w : GoalAt s declared n g goals r.literals) → ck ≡ checked_of (goal_fault w.sheet w.goal)) where
-        goal-checked : (w : ProgramReady s declared n table k) → ck ≡ checked_of (goal_fault w.stands.sheet the-goal)
+        goal-checked : (w : ProgramReady s declared n table k) → ck ≡ checked_of (goal_fault w.stands.sheet (the-goal g goals r t))
         goal-checked w = checked-over s declared n k g goals r t ck ec (over-of w)
 
         pub fault-stops : (q : Refusal) → ck ≡ Err q → (u : Result Written Fault) → RunRefused in_goal q u → (old : List ℕ) (w : ProgramReady s declared n table k)
             → OutcomeWritten (outcome w old) old old u
         unfolding checked_goal checked_goal_from faultless over_goal
         fault-stops q h u eu old w =
-            let o : checked_goal w.stands.sheet g ≡ refused q = ap (checked_goal_from w.stands.sheet) (goal-of s declared n k g goals r t).1 ∙ ap (faultless the-goal) (fault-some (goal_fault w.stands.sheet the-goal) q (sym h ∙ goal-checked w)) in
+            let o : checked_goal w.stands.sheet g ≡ refused q = ap (checked_goal_from w.stands.sheet) (goal-of s declared n k g goals r t).1 ∙ ap (faultless (the-goal g goals r t)) (fault-some (goal_fault w.stands.sheet (the-goal g goals r t)) q (sym h ∙ goal-checked w)) in
             stopped-answers (outcome w old) in_goal q (ap (over_goal w.stands.sheet allowance wanted (length old)) o) u eu old
 
         pub goal-runs : ck ≡ Ok tt → length goals ≤ goal_words → (x : Written) (old new : List ℕ)
@@ -151,9 +152,9 @@ module _ (s declared : List ℕ) (n : ℕ) (table : List ℕ) (k : ℕ) where
             → (v : Result Written Fault) → RunEnded x.report x.bytes v → (w : ProgramReady s declared n table k) → OutcomeWritten (outcome w old) old new v
         unfolding checked_goal checked_goal_from faultless over_goal reported run_answer run_text goal-programmed
         goal-runs h short x old new f v ev w =
-            let o : checked_goal w.stands.sheet g ≡ accepted the-goal = ap (checked_goal_from w.stands.sheet) (goal-of s declared n k g goals r t).1 ∙ ap (faultless the-goal) (fine-none (goal_fault w.stands.sheet the-goal) (sym h ∙ goal-checked w)) in
-            let c : outcome w old ≡ reported (run w.stands.sheet the-goal allowance wanted (length old)) = ap (over_goal w.stands.sheet allowance wanted (length old)) o in
-            let u : RunWritten w.stands.sheet the-goal allowance wanted old new x = f (goal-programmed short w) in
+            let o : checked_goal w.stands.sheet g ≡ accepted (the-goal g goals r t) = ap (checked_goal_from w.stands.sheet) (goal-of s declared n k g goals r t).1 ∙ ap (faultless (the-goal g goals r t)) (fine-none (goal_fault w.stands.sheet (the-goal g goals r t)) (sym h ∙ goal-checked w)) in
+            let c : outcome w old ≡ reported (run w.stands.sheet (the-goal g goals r t) allowance wanted (length old)) = ap (over_goal w.stands.sheet allowance wanted (length old)) o in
+            let u : RunWritten w.stands.sheet (the-goal g goals r t) allowance wanted old new x = f (goal-programmed g goals r t short w) in
             record {
               is = ev.0 ∙ (ap Ended-by u.is ∙ sym (ap run_answer c));
               bytes_is = ev.1 ∙ (u.bytes_is ∙ sym (ap (λ (y : RunOutcome). length (run_text y)) c));

@@ -12,3 +12,4 @@ pub mod Ready
 pub mod Tracing
 pub mod Sheets
 mod FormatLaws
+pub mod WorkingsLaws

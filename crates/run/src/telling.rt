@@ -79,7 +79,7 @@ pub fn next_of(
     Next::Step
 }
 
-/// The trail undone to the top's mark, which is its length then.
+/// Undoes the trail to the mark of the top and returns the length it then has, the mark.
 pub fn rewind(state: &mut [u32], pile: PileHeight) -> usize
     requires { Rewindable state.old pile.height pile.trail }
     ensures { Rewound state.old state.new pile.height pile.trail result }

@@ -1,4 +1,4 @@
-use Rattle.std.proofs.Common.{◌-◌, ◌≡◌, ◌≤◌}
+use Rattle.std.proofs.Common.{◌≡◌, ◌≤◌}
 use Rattle.output.specs.Listings.{pasted}
 use Rattle.words.specs.Tables.{entry_from}
 use Rattle.pilvaust.proofs.entries.fill.Given as goal

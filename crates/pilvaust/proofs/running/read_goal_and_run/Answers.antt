@@ -6,10 +6,10 @@ use Rattle.std.proofs.lemmas.Result.{err_from_is_err_and}
 use Rattle.pilvaust.proofs.running.read_goal_and_run.Goals as goal
 
 pub check_goal-requires : goal.check_goal-requires
-check_goal-requires c = goal-at c.args.declarations.text.now c.args.declarations.words.now c.args.declarations.count c.args.table.now c.args.k c.args.goal.now c.read_goal_text.new.table c.args.asked.allowance c.args.asked.wanted c.in_ok-read.read c.in_ok-read.ensures c.requires
+check_goal-requires c = goal-at c.args.declarations.text.now c.args.declarations.words.now c.args.declarations.count c.args.table.now c.args.k c.args.goal.now c.read_goal_text.new.table c.in_ok-read.read c.in_ok-read.ensures c.requires
 
 pub check_goal_and_run-ran-requires : goal.check_goal_and_run-ran-requires
-check_goal_and_run-ran-requires c = record { variables_in_bounds = omega (arith, c.read_goal_text.auto.table); programmed = goal-programmed c.args.declarations.text.now c.args.declarations.words.now c.args.declarations.count c.args.table.now c.args.k c.args.goal.now c.read_goal_text.new.table c.args.asked.allowance c.args.asked.wanted c.in_ok-read.read c.in_ok-read.ensures (omega (arith, c.read_goal_text.auto.table)) c.requires }
+check_goal_and_run-ran-requires c = record { variables_in_bounds = omega (arith, c.read_goal_text.auto.table); programmed = goal-programmed c.args.declarations.text.now c.args.declarations.words.now c.args.declarations.count c.args.table.now c.args.k c.args.goal.now c.read_goal_text.new.table c.in_ok-read.read c.in_ok-read.ensures (omega (arith, c.read_goal_text.auto.table)) c.requires }
 
 pub returns-in_err-read : goal.returns-in_err-read
 returns-in_err-read c = let p = err_from_is_err_and c.from_residual.result c.from_residual.ensures.1 in

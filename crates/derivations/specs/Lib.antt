@@ -1,0 +1,4 @@
+pub mod Workings
+pub mod Derivations
+pub mod Resolvents
+pub mod Outcomes

@@ -1,0 +1,4 @@
+pub mod Records
+pub mod Choices
+pub mod Replays
+pub mod Checks
