@@ -155,6 +155,69 @@ def chained_alternation(n):
     return sheet, numeral("N", n) + numeral("M", n) + ["big(N,G)", "chain(M,X,L,R,N,G)", "L = R"]
 
 
+def side_by_side(equations):
+    """The equations, eight to a literal."""
+    parts = []
+    for i in range(0, len(equations), ARGUMENTS):
+        some = equations[i : i + ARGUMENTS]
+        parts.append("t(" + ",".join(left for left, _ in some) + ") = t(" + ",".join(right for _, right in some) + ")")
+    return parts
+
+
+def mixed(n):
+    """Terms that double at each of n levels, their variables each beside a compound term."""
+    equations = []
+    for i in range(n):
+        equations += [(f"X{i}", f"f(g(X{i + 1},X{i + 1}))"), (f"W{i}", f"g(f(W{i + 1}),f(W{i + 1}))")]
+    return [], side_by_side(equations) + ["X0 = f(W0)"]
+
+
+def out_of_step(n):
+    """Two cyclic terms that are out of step, with 20 n leaves at each turn."""
+    large = term(["k"] * (20 * n))
+    equations = [("X", f"f(g(U,{large}))"), ("U", f"f(g(X,{large}))"), ("W", f"g(f(V),{large})"), ("V", f"g(f(W),{large})"), ("X", "f(W)")]
+    return [], side_by_side(equations)
+
+
+def beside(turns):
+    """Two terms A and B of so many nodes: A against k(B) takes as many turns, and is remembered only if that is much."""
+    many = term(["o"] * turns)
+    return [f"A = k(h({many}))", f"B = h({many})"]
+
+
+def deep(n):
+    """Two large terms, spelt otherwise, in n copies each: their parts are met by themselves, the deepest first, and each leaf is a light pair."""
+    def whole(leaf, depth):
+        return term([leaf] * 110) if depth == 0 else f"f({whole(leaf, depth - 1)},{whole(leaf, depth - 1)})"
+
+    def part(i, depth):
+        return f"V{i}" if depth == 0 else f"f({part(2 * i, depth - 1)},{part(2 * i + 1, depth - 1)})"
+
+    left, right = "L", "R"
+    for copy in ("O", "W"):
+        for depth in range(5):
+            left, right = f"p({copy},{left})", f"p(g({part(1, depth)}),{right})"
+    parts = [("V1", whole("A", 4))] + [(f"V{i}", f"f(V{2 * i},V{2 * i + 1})") for i in range(1, 16)]
+    sheet = [
+        ":- mode c(*,*,*,*,*,*).",
+        "c(z,A,B,e,e,W).",
+        f"c(s(N),A,B,{left},{right},O) :- W = g({whole('k(B)', 4)}), " + ", ".join(side_by_side(parts)) + ", c(N,A,B,L,R,W).",
+    ]
+    return sheet, beside(26) + numeral("N", n) + ["c(N,A,B,L,R,V)", "L = R"]
+
+
+def fill(n):
+    """Terms that double at each of n levels; between the two halves of a level stand so many light pairs that a memo is filled."""
+    sheet = [
+        ":- mode level(*,*,*,*,*,*). :- mode c(*,*,*,*,*).",
+        "c(z,A,B,e,e).",
+        f"c(s(N),A,B,p(W,L),p(g(V),R)) :- W = g({term(['k(B)'] * 1400)}), V = {term(['A'] * 1400)}, c(N,A,B,L,R).",
+        "level(z,M,A,B,q(k(B)),q(A)).",
+        "level(s(N),M,A,B,y(g(X),F,g(X)),y(W,G,W)) :- W = g(V), c(M,A,B,F,G), level(N,M,A,B,X,V).",
+    ]
+    return sheet, beside(27) + numeral("N", n) + numeral("M", 10) + ["level(N,M,A,B,X,V)", "X = V"]
+
+
 KINDS = {
     "over-one-term": (over_one_term, 37),
     "over-many-terms": (over_many_terms, 40),
@@ -163,6 +226,10 @@ KINDS = {
     "alternation": (alternation, 40),
     "leaves": (leaves, 45),
     "chained-alternation": (chained_alternation, 34),
+    "mixed": (mixed, 15),
+    "out-of-step": (out_of_step, 18),
+    "deep": (deep, 60),
+    "fill": (fill, 9),
 }
 
 

@@ -130,9 +130,9 @@ module _ (ss : List Symbol) (nodes state : List ℕ) (n : ℕ) (store : Store ss
 
       go : (t : Bool) → eqb (cell_at state (cell_of c v)) 0 ≡ t → (depth (resolve (bindings ss nodes state n) (var (record { copy = c; number = v }))) ≡ 0) ⊎ Entered ss nodes state n c v
       go true e =
-          inl (ap (λ (x : Variable). depth (resolve (bindings ss nodes state n) (var x))) (sym (variable-cell c v h)) ∙ ap depth (resolve-unbound ss nodes state n (cell_of c v) store small (eqb-true (cell_at state (cell_of c v)) 0 e)))
+          inl (ap (λ (x : Variable). depth (resolve (bindings ss nodes state n) (var x))) (sym (variable-cell c v h)) ∙ ap depth (resolve-unbound ss nodes state n (cell_of c v) store.raw small (eqb-true (cell_at state (cell_of c v)) 0 e)))
       go false e =
-          let o : (i : ℕ) × (i < n) × (trail_at state i ≡ cell_of c v) = store.only (cell_of c v) small (eqb-false (cell_at state (cell_of c v)) 0 e) in
+          let o : (i : ℕ) × (i < n) × (trail_at state i ≡ cell_of c v) = store.raw.only (cell_of c v) small (eqb-false (cell_at state (cell_of c v)) 0 e) in
           inr (record { i = o.0; inside = o.1; cell = o.2; same = ap (λ (x : Variable). depth (resolve (bindings ss nodes state n) (var x))) (ap variable_of o.2 ∙ variable-cell c v h) })
 
   -- a name with its arguments, where all entries that open fewer brackets are shallow
@@ -192,12 +192,12 @@ module _ (ss : List Symbol) (nodes state : List ℕ) (n : ℕ) (store : Store ss
   entry-shallow (suc k) i l h =
       subst (Shallow ss nodes state n) (sym same)
       (node-shallow place copy (trail_at state i) entry.node.0 entry.node.1 (copy-small word)
-      (λ j q less. entry-shallow k j q (let a : trail_at state j < cells = (store.entry j q).cell in let m : entry_depth ss nodes state n i * cells + trail_at state i < suc k = h in let e : entry_depth ss nodes state n i ≡ depth (resolve (bindings ss nodes state n) (copied copy entry.node.0)) = same in omega arith))
+      (λ j q less. entry-shallow k j q (let a : trail_at state j < cells = (store.raw.entry j q).cell in let m : entry_depth ss nodes state n i * cells + trail_at state i < suc k = h in let e : entry_depth ss nodes state n i ≡ depth (resolve (bindings ss nodes state n) (copied copy entry.node.0)) = same in omega arith))
       entry.down
       (λ j q equal less. entry-shallow k j q (let m : entry_depth ss nodes state n i * cells + trail_at state i < suc k = h in let e : entry_depth ss nodes state n i ≡ depth (resolve (bindings ss nodes state n) (copied copy entry.node.0)) = same in omega arith)))
     where
       entry : TrailEntry ss nodes state i
-      entry = store.entry i l
+      entry = store.raw.entry i l
 
       word : ℕ
       word = cell_at state (trail_at state i)
@@ -209,7 +209,7 @@ module _ (ss : List Symbol) (nodes state : List ℕ) (n : ℕ) (store : Store ss
       copy = copy_of word
 
       same : entry_depth ss nodes state n i ≡ depth (resolve (bindings ss nodes state n) (copied copy entry.node.0))
-      same = ap depth (resolve-bound ss nodes state n (trail_at state i) store entry.cell entry.bound ∙ ap (resolve (bindings ss nodes state n)) (term-at ss nodes place copy entry.node.0 entry.node.1))
+      same = ap depth (resolve-bound ss nodes state n (trail_at state i) store.raw entry.cell store.acyclic entry.bound ∙ ap (resolve (bindings ss nodes state n)) (term-at ss nodes place copy entry.node.0 entry.node.1))
 
   each-shallow : (i : ℕ) → i < n → Shallow ss nodes state n (entry_depth ss nodes state n i)
   each-shallow i l = entry-shallow (suc (entry_depth ss nodes state n i * cells + trail_at state i)) i l (omega arith)
@@ -234,7 +234,7 @@ module _ (ss : List Symbol) (nodes state : List ℕ) (n : ℕ) (store : Store ss
 
   -- `deepest` brackets are room enough: no more cells can be bound than there are
   pub shallow-terms : (p c : ℕ) → Node ss nodes p → c < copies → depth (resolve (bindings ss nodes state n) (term_at ss nodes p c)) ≤ deepest
-  shallow-terms p c node l = let a : depth (resolve (bindings ss nodes state n) (term_at ss nodes p c)) ≤ brackets * (n + 1) = shallow-term p c node l in let b : n ≤ cells = few ss nodes state n store in omega arith
+  shallow-terms p c node l = let a : depth (resolve (bindings ss nodes state n) (term_at ss nodes p c)) ≤ brackets * (n + 1) = shallow-term p c node l in let b : n ≤ cells = few ss nodes state n store.raw in omega arith
 
   pub shallow-values : (i : ℕ) → i < first_name → depth (value_in (bindings ss nodes state n) i) ≤ deepest
-  shallow-values i l = let a : depth (value_in (bindings ss nodes state n) i) ≤ brackets * (n + 1) = shallow-value i l in let b : n ≤ cells = few ss nodes state n store in omega arith
+  shallow-values i l = let a : depth (value_in (bindings ss nodes state n) i) ≤ brackets * (n + 1) = shallow-value i l in let b : n ≤ cells = few ss nodes state n store.raw in omega arith

@@ -122,7 +122,7 @@ module _ {ss : List Symbol} {n : ℕ} {sol : Solution} {stack : List ℕ} {i w :
   small = let l : i < variables = v.low in omega arith
 
   pub value-free : w ≡ 0 → value_in (bindings_of ss n sol) i ≡ var (variable_of i)
-  value-free z = as-cell ∙ resolve-unbound ss sol.nodes.now sol.state.now n i v.setting.store small (sym e ∙ z)
+  value-free z = as-cell ∙ resolve-unbound ss sol.nodes.now sol.state.now n i v.setting.store.raw small (sym e ∙ z)
 
   -- an unbound variable
   pub value-unbound : (limit : ℕ) (met : List Variable) {from to : Written} {rest : List Piece} → w ≡ 0 → SpeltSoFar (bytes_of met (unbound (variable_of i) ∷ rest)) from to rest
@@ -137,15 +137,15 @@ module _ {ss : List Symbol} {n : ℕ} {sol : Solution} {stack : List ℕ} {i w :
     unfolding value_of
     value-bound =
         as-cell
-        ∙ (resolve-bound ss sol.nodes.now sol.state.now n i v.setting.store small (λ q. z (e ∙ q))
+        ∙ (resolve-bound ss sol.nodes.now sol.state.now n i v.setting.store.raw small v.setting.store.acyclic (λ q. z (e ∙ q))
         ∙ (ap (λ (x : ℕ). resolve (bindings_of ss n sol) (term_at ss sol.nodes.now (node_of x) (copy_of x))) (sym e)
         ∙ ap (λ (a : At). resolve (bindings_of ss n sol) (term_at ss sol.nodes.now a.node a.copy)) (sym et)))
 
     pub value-facing : Ample stack open_size → Facing ss n sol stack t.node t.copy 0
     value-facing room =
         let b : cell_at sol.state.now i ≡ 0 → ⊥ = (λ q. z (e ∙ q)) in
-        let o : (j : ℕ) × (j < n) × (trail_at sol.state.now j ≡ i) = v.setting.store.only i small b in
-        let entry : TrailEntry ss sol.nodes.now sol.state.now o.0 = v.setting.store.entry o.0 o.1 in
+        let o : (j : ℕ) × (j < n) × (trail_at sol.state.now j ≡ i) = v.setting.store.raw.only i small b in
+        let entry : TrailEntry ss sol.nodes.now sol.state.now o.0 = v.setting.store.raw.entry o.0 o.1 in
         record {
           setting = v.setting;
           node = subst⁻¹ (λ (a : At). Node ss sol.nodes.now a.node) et (subst (λ (x : ℕ). Node ss sol.nodes.now (node_of x)) (ap (cell_at sol.state.now) o.2 ∙ sym e) entry.node);

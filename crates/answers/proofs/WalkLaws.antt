@@ -284,31 +284,31 @@ few-met {numbers} {at} {met} k n =
 module _ {ss : List Symbol} {n : ℕ} {sol : Solution} {stack : List ℕ} {p c height : ℕ} (f : Facing ss n sol stack p c height) where
   -- what `deref` asks
   abbrev pub facing-stored : StoredTerm sol.nodes.now sol.state.now p c
-  facing-stored = record { ss = ss; n = n; store = f.setting.store; node = f.node; copy = f.copy }
+  facing-stored = record { ss = ss; n = n; store = f.setting.store.raw; known = true; acyclic = λ t. f.setting.store.acyclic; node = f.node; copy = f.copy }
 
-  pub facing-head : {q d : ℕ} → Dereferences ss sol.nodes.now sol.state.now n p c q d → Heading ss (bindings_of ss n sol) sol stack q d height
+  pub facing-head : {q d : ℕ} → Dereferences true ss sol.nodes.now sol.state.now n p c q d → Heading ss (bindings_of ss n sol) sol stack q d height
   facing-head {q} {d} l =
       record {
         node = l.leads.node;
         copy = l.leads.copy;
-        small = f.setting.store.small;
+        small = f.setting.store.raw.small;
         names = f.setting.names;
         free = λ low. free low;
         rows = f.setting.rows;
-        shallow = (let e : depth (resolve (bindings_of ss n sol) (term_at ss sol.nodes.now p c)) ≡ depth (resolve (bindings_of ss n sol) (term_at ss sol.nodes.now q d)) = ap depth (sym l.leads.means) in let k : depth (resolve (bindings_of ss n sol) (term_at ss sol.nodes.now p c)) + height ≤ deepest = f.shallow in omega arith);
+        shallow = (let e : depth (resolve (bindings_of ss n sol) (term_at ss sol.nodes.now p c)) ≡ depth (resolve (bindings_of ss n sol) (term_at ss sol.nodes.now q d)) = ap depth (sym (l.leads.means tt)) in let k : depth (resolve (bindings_of ss n sol) (term_at ss sol.nodes.now p c)) + height ≤ deepest = f.shallow in omega arith);
         room = f.room;
       }
     where
       free : get_or sol.nodes.now q 0 < first_name → resolve (bindings_of ss n sol) (term_at ss sol.nodes.now q d) ≡ term_at ss sol.nodes.now q d
       free low =
           let is : term_at ss sol.nodes.now q d ≡ var (variable_of (cell_of d (get_or sol.nodes.now q 0))) = variable-at ss sol.nodes.now q l.leads.node d low ∙ ap var (sym (variable-cell d (get_or sol.nodes.now q 0) low)) in
-          rw is (resolve-unbound ss sol.nodes.now sol.state.now n (cell_of d (get_or sol.nodes.now q 0)) f.setting.store (cell-small d (get_or sol.nodes.now q 0) l.leads.copy low) (l.stops low))
+          rw is (resolve-unbound ss sol.nodes.now sol.state.now n (cell_of d (get_or sol.nodes.now q 0)) f.setting.store.raw (cell-small d (get_or sol.nodes.now q 0) l.leads.copy low) (l.stops low))
 
-  pub facing-spelt : {q d : ℕ} (met : List Variable) {from : Written} {to : Walk} (rest : List Piece) → Dereferences ss sol.nodes.now sol.state.now n p c q d
+  pub facing-spelt : {q d : ℕ} (met : List Variable) {from : Written} {to : Walk} (rest : List Piece) → Dereferences true ss sol.nodes.now sol.state.now n p c q d
       → Spelling ss sol.nodes.now (bindings_of ss n sol) (bytes_of met (spelt (resolve (bindings_of ss n sol) (term_at ss sol.nodes.now q d)) (left_to_spell ss sol.nodes.now (bindings_of ss n sol) stack height rest))) from to rest
       → Spelling ss sol.nodes.now (bindings_of ss n sol) (bytes_of met (spelt (resolve (bindings_of ss n sol) (term_at ss sol.nodes.now p c)) (left_to_spell ss sol.nodes.now (bindings_of ss n sol) stack height rest))) from to rest
   facing-spelt met rest l s =
-      record { told = told-whole (ap (λ (t : RTerm). bytes_of met (spelt t (left_to_spell ss sol.nodes.now (bindings_of ss n sol) stack height rest))) (sym l.leads.means)) s.told; rows = s.rows }
+      record { told = told-whole (ap (λ (t : RTerm). bytes_of met (spelt t (left_to_spell ss sol.nodes.now (bindings_of ss n sol) stack height rest))) (sym (l.leads.means tt))) s.told; rows = s.rows }
 
 -- bytes before a part that is told
 pub told-after : {whole ws : List ℕ} {from mid to : Written} (met : List Variable) (ps : List Piece) {qs : List Piece} → Appended from.out from.at ws mid.out mid.at → whole ≡ ws ++ bytes_of met ps → SpeltSoFar (bytes_of met ps) mid to qs → SpeltSoFar whole from to qs
@@ -394,7 +394,7 @@ module _ {ss : List Symbol} {n : ℕ} {sol : Solution} {stack : List ℕ} {heigh
     turn_end = node_end ss sol.nodes.now place turn-node
 
     pub turn_small : place + get_or sol.nodes.now (place + 1) 0 ≤ places
-    turn_small = let a : place + get_or sol.nodes.now (place + 1) 0 ≤ length sol.nodes.now = node_end ss sol.nodes.now place turn-node in let d : length sol.nodes.now ≤ places = s.store.small in omega arith
+    turn_small = let a : place + get_or sol.nodes.now (place + 1) 0 ≤ length sol.nodes.now = node_end ss sol.nodes.now place turn-node in let d : length sol.nodes.now ≤ places = s.store.raw.small in omega arith
 
     terms-are : row_terms ss sol.nodes.now (row_word stack top) (end_word stack top) ≡ rcons (term_at ss sol.nodes.now place copy) (terms_at ss sol.nodes.now (place + get_or sol.nodes.now (place + 1) 0) last copy)
     terms-are = rw (← ep, ← el, ← ec) (row_cons ss sol.nodes.now place last row copy before_last)

@@ -1,10 +1,4 @@
 pub mod Deref
-pub mod Scan
 pub mod Apart
 pub mod ShortcutsLaws
 pub mod Remembering
-pub mod Lists
-pub mod Bounds
-pub mod Arranging
-pub mod Ahead
-pub mod OrdersWitness

@@ -89,8 +89,8 @@ module _ (ss : List Symbol) (nodes : List ℕ) (b : List Binding) (before : List
   memo-kept after w = record { links = links-kept before after (λ j a b. w j (omega arith)) (λ j a b. w j (omega arith)) (λ j a. w j (omega arith)) (λ (x : ℕ). resolve b (value_of ss nodes x)) m.links; cuts = cuts-kept b before after (λ j l h. w j l) m.cuts }
 
   -- only cuts changed
-  pub memo-eased : (after : List ℕ) → Eased b before after → Memo ss nodes b after
-  memo-eased after e = record { links = links-kept before after e.beside.counts (λ j l h. e.beside.high j l) (λ j l. e.beside.high j (omega arith)) (λ (x : ℕ). resolve b (value_of ss nodes x)) m.links; cuts = e.cuts }
+  pub memo-eased : (after : List ℕ) → Eased true b before after → Memo ss nodes b after
+  memo-eased after e = record { links = links-kept before after e.beside.counts (λ j l h. e.beside.high j l) (λ j l. e.beside.high j (omega arith)) (λ (x : ℕ). resolve b (value_of ss nodes x)) m.links; cuts = e.cuts tt }
 
   -- one binding more
   pub memo-bound : (new : Binding) → Memo ss nodes (new ∷ b) before

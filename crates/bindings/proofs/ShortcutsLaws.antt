@@ -3,6 +3,7 @@ use Prim.Native.Nat.{ℕ, suc, ◌+◌, ◌≤◌, ◌<◌}
 use native.Mathlib.Omega.{arith}
 use mathlib.Core.Path.{◌≡◌, refl, sym, ap, ◌∙◌, subst, subst⁻¹}
 use mathlib.Core.Bool.{Bool, true, false}
+use lib.Dec.{T}
 use mathlib.Core.List.{List, ◌∷◌}
 use Rattle.std.proofs.Common.{Option, Some, None}
 use Rattle.std.specs.Option.{is_some}
@@ -131,10 +132,10 @@ cutting-at nodes p c q d {before} {after} {v} {x} {w} {y} ev ex ew ey k =
 
 -- ---- only cuts change
 
-pub eased-refl : (b : List Binding) (scratch : List ℕ) → Cuts b scratch → Eased b scratch scratch
+pub eased-refl : {known : Bool} (b : List Binding) (scratch : List ℕ) → (T known → Cuts b scratch) → Eased known b scratch scratch
 eased-refl b scratch k = record { beside = record { long = refl; low = λ j l. refl; counts = λ j l h. refl; high = λ j l. refl }; cuts = k }
 
-pub eased-trans : {b : List Binding} {s t u : List ℕ} → Eased b s t → Eased b t u → Eased b s u
+pub eased-trans : {known : Bool} {b : List Binding} {s t u : List ℕ} → Eased known b s t → Eased known b t u → Eased known b s u
 eased-trans e f =
     record {
       beside = record {
@@ -146,8 +147,8 @@ eased-trans e f =
       cuts = f.cuts;
     }
 
-pub eased-roomy : {b : List Binding} {s t : List ℕ} → Eased b s t → Roomy s → Roomy t
-eased-roomy {b} {s} {t} e r = let l : rows ≤ length s = r in let z : length t ≡ length s = e.beside.long in omega arith
+pub eased-roomy : {known : Bool} {b : List Binding} {s t : List ℕ} → Eased known b s t → Roomy s → Roomy t
+eased-roomy {known} {b} {s} {t} e r = let l : rows ≤ length s = r in let z : length t ≡ length s = e.beside.long in omega arith
 
 -- ---- a next term, or none
 
@@ -161,22 +162,22 @@ some-is (Some a) e z = absurd (cc)
 
 -- ---- where a word leads
 
-pub leads-trans : {ss : List Symbol} {nodes state : List ℕ} {n p c q d q1 d1 : ℕ} → MeansSame ss nodes state n p c q d → MeansSame ss nodes state n q d q1 d1 → MeansSame ss nodes state n p c q1 d1
-leads-trans k m = record { node = m.node; copy = m.copy; means = m.means ∙ k.means; within = λ j w l. m.within j w (k.within j w l) }
+pub leads-trans : {known : Bool} {ss : List Symbol} {nodes state : List ℕ} {n p c q d q1 d1 : ℕ} → MeansSame known ss nodes state n p c q d → MeansSame known ss nodes state n q d q1 d1 → MeansSame known ss nodes state n p c q1 d1
+leads-trans k m = record { node = m.node; copy = m.copy; means = λ f. m.means f ∙ k.means f; within = λ j w l. m.within j w (k.within j w l) }
 
 -- The word w leads on from the term at p in copy c, to an earlier cell or to a name; where it is 0, nothing does.
-record NextWord (ss : List Symbol) (nodes state : List ℕ) (n p c w : ℕ) : Type 0 where
+record NextWord (known : Bool) (ss : List Symbol) (nodes state : List ℕ) (n p c w : ℕ) : Type 0 where
   stops : w ≡ 0 → get_or nodes p 0 < first_name → cell_at state (cell_of c (get_or nodes p 0)) ≡ 0
   variable : (w ≡ 0 → ⊥) → get_or nodes p 0 < first_name
-  leads : (w ≡ 0 → ⊥) → MeansSame ss nodes state n p c (node_of w) (copy_of w)
+  leads : (w ≡ 0 → ⊥) → MeansSame known ss nodes state n p c (node_of w) (copy_of w)
   down : (w ≡ 0 → ⊥) → get_or nodes (node_of w) 0 < first_name → cell_of (copy_of w) (get_or nodes (node_of w) 0) < cell_of c (get_or nodes p 0)
 
-next-held : {ss : List Symbol} {nodes state : List ℕ} {n p c w : ℕ} → NextWord ss nodes state n p c w → (r : Option At) → CellTerm w r → Next ss nodes state n p c r
+next-held : {known : Bool} {ss : List Symbol} {nodes state : List ℕ} {n p c w : ℕ} → NextWord known ss nodes state n p c w → (r : Option At) → CellTerm w r → Next known ss nodes state n p c r
 next-held k None h = record { stops = λ e. k.stops h; on = λ a e. absurd (cc) }
-next-held {ss} {nodes} {state} {n} {p} {c} {w} k (Some x) h =
+next-held {known} {ss} {nodes} {state} {n} {p} {c} {w} k (Some x) h =
     record {
       stops = λ e. absurd (cc);
-      on = λ a e. subst⁻¹ (NextOfChain ss nodes state n p c) (let i : a ≡ at_of w = cc (h.1) in i) (record { variable = k.variable h.0; leads = k.leads h.0; down = k.down h.0 });
+      on = λ a e. subst⁻¹ (NextOfChain known ss nodes state n p c) (let i : a ≡ at_of w = cc (h.1) in i) (record { variable = k.variable h.0; leads = k.leads h.0; down = k.down h.0 });
     }
 
 module _ (nodes front : List ℕ) (p c : ℕ) (g : Fronted nodes front p c) where
@@ -189,15 +190,15 @@ module _ (nodes front : List ℕ) (p c : ℕ) (g : Fronted nodes front p c) wher
   pub inside : p < length nodes
   inside = let a : p + loaded_node ≤ length nodes = node-inside g.given.ss nodes p g.given.node in omega arith
 
-  pub leads-here : MeansSame g.given.ss nodes g.state g.given.n p c p c
-  leads-here = record { node = g.given.node; copy = g.given.copy; means = refl; within = λ k w l. l }
+  pub leads-here : MeansSame g.given.known g.given.ss nodes g.state g.given.n p c p c
+  leads-here = record { node = g.given.node; copy = g.given.copy; means = λ f. refl; within = λ k w l. l }
 
   -- another term of the store
-  abbrev pub front_at : {q d : ℕ} → MeansSame g.given.ss nodes g.state g.given.n p c q d → Fronted nodes front q d
-  front_at k = record { state = g.state; given = record { ss = g.given.ss; n = g.given.n; store = g.given.store; node = k.node; copy = k.copy }; long = g.long; same = g.same }
+  abbrev pub front_at : {q d : ℕ} → MeansSame g.given.known g.given.ss nodes g.state g.given.n p c q d → Fronted nodes front q d
+  front_at k = record { state = g.state; given = record { ss = g.given.ss; n = g.given.n; store = g.given.store; known = g.given.known; acyclic = g.given.acyclic; node = k.node; copy = k.copy }; long = g.long; same = g.same }
 
   module _ {v : ℕ} (ev : v ≡ get_or nodes p 0) where
-    pub next-name : first_name ≤ v → Next g.given.ss nodes g.state g.given.n p c None
+    pub next-name : first_name ≤ v → Next g.given.known g.given.ss nodes g.state g.given.n p c None
     next-name l = record { stops = λ e h. absurd (let z : get_or nodes p 0 < first_name = h in omega (arith, ev, l)); on = λ a e. absurd (cc) }
 
     module _ (l : v < first_name) {x : ℕ} (ex : x ≡ cell_of c v) where
@@ -217,7 +218,7 @@ module _ (nodes front : List ℕ) (p c : ℕ) (g : Fronted nodes front p c) wher
       term_is : cell_means b x ≡ resolve b (term_at ss nodes p c)
       term_is = ap (cell_means b) cell-here ∙ ap (resolve b) (ap var (variable-cell c (get_or nodes p 0) low-here) ∙ sym (variable-at ss nodes p g.given.node c low-here))
 
-      module _ {y w : ℕ} (same : cell_means b x ≡ cell_means b y) (le : y ≤ x) (ef : w ≡ get_or front y 0) (some : w ≡ 0 → ⊥) where
+      module _ {y w : ℕ} (same : T g.given.known → cell_means b x ≡ cell_means b y) (le : y ≤ x) (ef : w ≡ get_or front y 0) (some : w ≡ 0 → ⊥) where
         small-y : y < cells
         small-y = let k : x < cells = next-cell in omega (arith, le)
 
@@ -227,41 +228,41 @@ module _ (nodes front : List ℕ) (p c : ℕ) (g : Fronted nodes front p c) wher
         cell : BoundCell ss nodes g.state g.given.n y
         cell = bound-cell-is ss nodes g.state g.given.n y g.given.store small-y (λ h. some (ew ∙ h))
 
-        via-leads : MeansSame ss nodes g.state g.given.n p c (node_of w) (copy_of w)
+        via-leads : MeansSame g.given.known ss nodes g.state g.given.n p c (node_of w) (copy_of w)
         via-leads =
-            subst⁻¹ (λ (u : ℕ). MeansSame ss nodes g.state g.given.n p c (node_of u) (copy_of u)) ew
-            (record { node = cell.node; copy = copy-small (cell_at g.state y); means = cell.means ∙ (sym same ∙ term_is); within = λ j h q. cell.within j h })
+            subst⁻¹ (λ (u : ℕ). MeansSame g.given.known ss nodes g.state g.given.n p c (node_of u) (copy_of u)) ew
+            (record { node = cell.node; copy = copy-small (cell_at g.state y); means = λ f. cell.means (g.given.acyclic f) ∙ (sym (same f) ∙ term_is); within = λ j h q. cell.within j h })
 
         via-down : get_or nodes (node_of w) 0 < first_name → cell_of (copy_of w) (get_or nodes (node_of w) 0) < cell_of c (get_or nodes p 0)
         via-down =
             subst⁻¹ (λ (u : ℕ). get_or nodes (node_of u) 0 < first_name → cell_of (copy_of u) (get_or nodes (node_of u) 0) < cell_of c (get_or nodes p 0)) ew
             (λ q. let a : cell_of (copy_of (cell_at g.state y)) (get_or nodes (node_of (cell_at g.state y)) 0) < y = cell.down q in let e : x ≡ cell_of c (get_or nodes p 0) = cell-here in omega (arith, le))
 
-      next-plain-word : {w : ℕ} → w ≡ get_or front x 0 → NextWord g.given.ss nodes g.state g.given.n p c w
-      next-plain-word {w} ew = record { stops = λ e h. sym (ap (cell_at g.state) cell-here) ∙ (sym (g.same x next-cell) ∙ (sym ew ∙ e)); variable = λ z. low-here; leads = λ z. via-leads refl (omega arith) ew z; down = λ z. via-down refl (omega arith) ew z }
+      next-plain-word : {w : ℕ} → w ≡ get_or front x 0 → NextWord g.given.known g.given.ss nodes g.state g.given.n p c w
+      next-plain-word {w} ew = record { stops = λ e h. sym (ap (cell_at g.state) cell-here) ∙ (sym (g.same x next-cell) ∙ (sym ew ∙ e)); variable = λ z. low-here; leads = λ z. via-leads (λ f. refl) (omega arith) ew z; down = λ z. via-down (λ f. refl) (omega arith) ew z }
 
-      pub next-plain : {w : ℕ} → w ≡ get_or front x 0 → (r : Option At) → CellTerm w r → Next g.given.ss nodes g.state g.given.n p c r
+      pub next-plain : {w : ℕ} → w ≡ get_or front x 0 → (r : Option At) → CellTerm w r → Next g.given.known g.given.ss nodes g.state g.given.n p c r
       next-plain e r h = next-held (next-plain-word e) r h
 
-      pub next-cut : {scratch : List ℕ} {y w : ℕ} → Cuts b scratch → Cut scratch x y → y < x → w ≡ get_or front y 0 → (w ≡ 0 → ⊥) → (r : Option At) → CellTerm w r → Next g.given.ss nodes g.state g.given.n p c r
+      pub next-cut : {scratch : List ℕ} {y w : ℕ} → (T g.given.known → Cuts b scratch) → Cut scratch x y → y < x → w ≡ get_or front y 0 → (w ≡ 0 → ⊥) → (r : Option At) → CellTerm w r → Next g.given.known g.given.ss nodes g.state g.given.n p c r
       next-cut {scratch} {y} {w} t k le ef some r h =
-          let same : cell_means b x ≡ cell_means b y = k.is b t in
+          let same : T g.given.known → cell_means b x ≡ cell_means b y = (λ f. k.is b (t f)) in
           next-held (record { stops = λ e. absurd (some e); variable = λ z. low-here; leads = λ z. via-leads same (omega (arith, le)) ef z; down = λ z. via-down same (omega (arith, le)) ef z }) r h
 
       -- by the cut where the cell that it leads to is bound, else by the variable's own cell
-      pub next-or : {scratch : List ℕ} {y u w : ℕ} → Cuts b scratch → Cut scratch x y → y < x → u ≡ get_or front y 0 → w ≡ get_or front x 0 → (r s : Option At) → CellTerm u r → CellTerm w s → Next g.given.ss nodes g.state g.given.n p c (option_or r s)
+      pub next-or : {scratch : List ℕ} {y u w : ℕ} → (T g.given.known → Cuts b scratch) → Cut scratch x y → y < x → u ≡ get_or front y 0 → w ≡ get_or front x 0 → (r s : Option At) → CellTerm u r → CellTerm w s → Next g.given.known g.given.ss nodes g.state g.given.n p c (option_or r s)
       next-or t k le eu _ (Some a) s h j = next-cut t k le eu h.0 (Some a) h
       next-or t k le eu ew None s h j = next-plain ew s j
 
   -- the term that the variable itself is bound to
-  pub next-bound : (r : Option At) → CellTerm (bound_at nodes front p c) r → Next g.given.ss nodes g.state g.given.n p c r
+  pub next-bound : (r : Option At) → CellTerm (bound_at nodes front p c) r → Next g.given.known g.given.ss nodes g.state g.given.n p c r
   next-bound r e = go (ltb (get_or nodes p 0) first_name) refl
     where
-      nothing : first_name ≤ get_or nodes p 0 → (o : Option At) → CellTerm (bound_at nodes front p c) o → Next g.given.ss nodes g.state g.given.n p c o
+      nothing : first_name ≤ get_or nodes p 0 → (o : Option At) → CellTerm (bound_at nodes front p c) o → Next g.given.known g.given.ss nodes g.state g.given.n p c o
       nothing l None h = next-name refl l
       nothing l (Some a) h = absurd (h.0 (bound-name nodes front p c l))
 
-      go : (t : Bool) → ltb (get_or nodes p 0) first_name ≡ t → Next g.given.ss nodes g.state g.given.n p c r
+      go : (t : Bool) → ltb (get_or nodes p 0) first_name ≡ t → Next g.given.known g.given.ss nodes g.state g.given.n p c r
       go true t = let l : get_or nodes p 0 < first_name = ltb-true (get_or nodes p 0) first_name t in next-plain refl l refl (bound-variable nodes front p c l) r e
       go false t = nothing (ltb-false (get_or nodes p 0) first_name t) r e
 
@@ -272,50 +273,50 @@ module _ (nodes front : List ℕ) (p c : ℕ) (g : Fronted nodes front p c) wher
 -- ---- the first links
 
 -- where something leads on, it is from a variable
-on-variable : {ss : List Symbol} {nodes state : List ℕ} {n p c : ℕ} (r : Option At) → Next ss nodes state n p c r → (r ≡ None → ⊥) → get_or nodes p 0 < first_name
+on-variable : {known : Bool} {ss : List Symbol} {nodes state : List ℕ} {n p c : ℕ} (r : Option At) → Next known ss nodes state n p c r → (r ≡ None → ⊥) → get_or nodes p 0 < first_name
 on-variable None k z = absurd (z refl)
 on-variable (Some a) k z = (k.on a refl).variable
 
 module _ (nodes front : List ℕ) (p c : ℕ) (g : Fronted nodes front p c) where
   -- a next term, or none
-  pub lead-here : (r : Option At) → CellTerm (bound_at nodes front p c) r → Staged g.given.ss nodes g.state g.given.n p c (record { at = record { node = p; copy = c }; next = r })
+  pub lead-here : (r : Option At) → CellTerm (bound_at nodes front p c) r → Staged g.given.known g.given.ss nodes g.state g.given.n p c (record { at = record { node = p; copy = c }; next = r })
   lead-here r e = record { leads = leads-here nodes front p c g; stops = (next-bound nodes front p c g r e).stops }
 
   module _ {a : At} (e : CellTerm (bound_at nodes front p c) (Some a)) where
-    pub lead-leads : MeansSame g.given.ss nodes g.state g.given.n p c a.node a.copy
+    pub lead-leads : MeansSame g.given.known g.given.ss nodes g.state g.given.n p c a.node a.copy
     lead-leads = ((next-bound nodes front p c g (Some a) e).on a refl).leads
 
     abbrev pub lead-on : Fronted nodes front a.node a.copy
     lead-on = front_at nodes front p c g lead-leads
 
-    pub lead-further : {r : Stage} → ((h : Fronted nodes front a.node a.copy) → Staged h.given.ss nodes h.state h.given.n a.node a.copy r) → Staged g.given.ss nodes g.state g.given.n p c r
+    pub lead-further : {r : Stage} → ((h : Fronted nodes front a.node a.copy) → Staged h.given.known h.given.ss nodes h.state h.given.n a.node a.copy r) → Staged g.given.known g.given.ss nodes g.state g.given.n p c r
     lead-further m =
-        let s : Staged g.given.ss nodes g.state g.given.n a.node a.copy _ = m lead-on in
+        let s : Staged g.given.known g.given.ss nodes g.state g.given.n a.node a.copy _ = m lead-on in
         record { leads = leads-trans lead-leads s.leads; stops = s.stops }
 
 -- ---- a stride
 
 module _ (nodes front scratch : List ℕ) (p c : ℕ) (g : Followable nodes front scratch p c) where
   -- another term that it leads to
-  abbrev pub follow-at : {q d : ℕ} → MeansSame g.from.given.ss nodes g.from.state g.from.given.n p c q d → Followable nodes front scratch q d
+  abbrev pub follow-at : {q d : ℕ} → MeansSame g.from.given.known g.from.given.ss nodes g.from.state g.from.given.n p c q d → Followable nodes front scratch q d
   follow-at k = record { from = front_at nodes front p c g.from k; roomy = g.roomy; cuts = g.cuts }
 
 -- k links and cuts on; the cell of a variable is lower by as many at least
-pub record Striding (ss : List Symbol) (nodes state : List ℕ) (n p c k : ℕ) (a : At) (r : Option At) : Type 0 where
-  pub leads : MeansSame ss nodes state n p c a.node a.copy
-  pub next : Next ss nodes state n a.node a.copy r
+pub record Striding (known : Bool) (ss : List Symbol) (nodes state : List ℕ) (n p c k : ℕ) (a : At) (r : Option At) : Type 0 where
+  pub leads : MeansSame known ss nodes state n p c a.node a.copy
+  pub next : Next known ss nodes state n a.node a.copy r
   pub from : get_or nodes a.node 0 < first_name → get_or nodes p 0 < first_name
   pub down : get_or nodes a.node 0 < first_name → cell_of a.copy (get_or nodes a.node 0) + k ≤ cell_of c (get_or nodes p 0)
 
 module _ (nodes front scratch : List ℕ) (p c : ℕ) (g : Followable nodes front scratch p c) where
-  pub stride-begin : {r : Option At} → ((h : Followable nodes front scratch p c) → Next h.from.given.ss nodes h.from.state h.from.given.n p c r) → Striding g.from.given.ss nodes g.from.state g.from.given.n p c 0 (record { node = p; copy = c }) r
+  pub stride-begin : {r : Option At} → ((h : Followable nodes front scratch p c) → Next h.from.given.known h.from.given.ss nodes h.from.state h.from.given.n p c r) → Striding g.from.given.known g.from.given.ss nodes g.from.state g.from.given.n p c 0 (record { node = p; copy = c }) r
   stride-begin k = record { leads = leads-here nodes front p c g.from; next = k g; from = λ l. l; down = λ l. omega arith }
 
-  module _ {k : ℕ} {q : At} {r : Option At} (s : Striding g.from.given.ss nodes g.from.state g.from.given.n p c k q r) where
-    pub stride-end : r ≡ None → Strode g.from.given.ss nodes g.from.state g.from.given.n p c (record { at = q; next = r })
+  module _ {k : ℕ} {q : At} {r : Option At} (s : Striding g.from.given.known g.from.given.ss nodes g.from.state g.from.given.n p c k q r) where
+    pub stride-end : r ≡ None → Strode g.from.given.known g.from.given.ss nodes g.from.state g.from.given.n p c (record { at = q; next = r })
     stride-end e = record { staged = record { leads = s.leads; stops = s.next.stops }; further = λ z. absurd (z e) }
 
-    pub stride-full : 1 ≤ k → Strode g.from.given.ss nodes g.from.state g.from.given.n p c (record { at = q; next = r })
+    pub stride-full : 1 ≤ k → Strode g.from.given.known g.from.given.ss nodes g.from.state g.from.given.n p c (record { at = q; next = r })
     stride-full l =
         record {
           staged = record { leads = s.leads; stops = s.next.stops };
@@ -326,13 +327,13 @@ module _ (nodes front scratch : List ℕ) (p c : ℕ) (g : Followable nodes fron
         }
 
     module _ {a : At} (e : r ≡ Some a) where
-      pub leads-on : NextOfChain g.from.given.ss nodes g.from.state g.from.given.n q.node q.copy a
+      pub leads-on : NextOfChain g.from.given.known g.from.given.ss nodes g.from.state g.from.given.n q.node q.copy a
       leads-on = s.next.on a e
 
       abbrev pub stride-follow : Followable nodes front scratch a.node a.copy
       stride-follow = follow-at nodes front scratch p c g (leads-trans s.leads leads-on.leads)
 
-      pub stride-next : {u : Option At} → ((h : Followable nodes front scratch a.node a.copy) → Next h.from.given.ss nodes h.from.state h.from.given.n a.node a.copy u) → Striding g.from.given.ss nodes g.from.state g.from.given.n p c (k + 1) a u
+      pub stride-next : {u : Option At} → ((h : Followable nodes front scratch a.node a.copy) → Next h.from.given.known h.from.given.ss nodes h.from.state h.from.given.n a.node a.copy u) → Striding g.from.given.known g.from.given.ss nodes g.from.state g.from.given.n p c (k + 1) a u
       stride-next m =
           let h : cell_of q.copy (get_or nodes q.node 0) + k ≤ cell_of c (get_or nodes p 0) = s.down leads-on.variable in
           record {
@@ -344,20 +345,20 @@ module _ (nodes front scratch : List ℕ) (p c : ℕ) (g : Followable nodes fron
 
 -- ---- a walk
 
-pub record Walking (ss : List Symbol) (nodes state : List ℕ) (n : ℕ) (before after : List ℕ) (p c q d : ℕ) : Type 0 where
-  pub leads : MeansSame ss nodes state n p c q d
-  pub eased : Eased (bindings ss nodes state n) before after
+pub record Walking (known : Bool) (ss : List Symbol) (nodes state : List ℕ) (n : ℕ) (before after : List ℕ) (p c q d : ℕ) : Type 0 where
+  pub leads : MeansSame known ss nodes state n p c q d
+  pub eased : Eased known (bindings ss nodes state n) before after
 
 module _ (nodes front before : List ℕ) (p c : ℕ) (g : Followable nodes front before p c) where
-  pub walk-begin : Walking g.from.given.ss nodes g.from.state g.from.given.n before before p c p c
+  pub walk-begin : Walking g.from.given.known g.from.given.ss nodes g.from.state g.from.given.n before before p c p c
   walk-begin = record { leads = leads-here nodes front p c g.from; eased = eased-refl (bindings g.from.given.ss nodes g.from.state g.from.given.n) before g.cuts }
 
-  module _ {after : List ℕ} {q d : ℕ} (s : Walking g.from.given.ss nodes g.from.state g.from.given.n before after p c q d) where
+  module _ {after : List ℕ} {q d : ℕ} (s : Walking g.from.given.known g.from.given.ss nodes g.from.state g.from.given.n before after p c q d) where
     abbrev pub walk-follow : Followable nodes front after q d
     walk-follow = record { from = front_at nodes front p c g.from s.leads; roomy = eased-roomy s.eased g.roomy; cuts = s.eased.cuts }
 
-    module _ {r : Stage} (m : (h : Followable nodes front after q d) → Strode h.from.given.ss nodes h.from.state h.from.given.n q d r) where
-      strode : Strode g.from.given.ss nodes g.from.state g.from.given.n q d r
+    module _ {r : Stage} (m : (h : Followable nodes front after q d) → Strode h.from.given.known h.from.given.ss nodes h.from.state h.from.given.n q d r) where
+      strode : Strode g.from.given.known g.from.given.ss nodes g.from.state g.from.given.n q d r
       strode = m walk-follow
 
       pub walk_end : r.next ≡ None → Followed g after r.at
@@ -390,24 +391,24 @@ module _ (nodes front before : List ℕ) (p c : ℕ) (g : Followable nodes front
             omega arith
 
         -- a variable of the store is that of its cell
-        variable-is : {i e : ℕ} → MeansSame g.from.given.ss nodes g.from.state g.from.given.n p c i e → get_or nodes i 0 < first_name
+        variable-is : {i e : ℕ} → MeansSame g.from.given.known g.from.given.ss nodes g.from.state g.from.given.n p c i e → get_or nodes i 0 < first_name
             → cell_means (bindings g.from.given.ss nodes g.from.state g.from.given.n) (cell_of e (get_or nodes i 0)) ≡ resolve (bindings g.from.given.ss nodes g.from.state g.from.given.n) (term_at g.from.given.ss nodes i e)
         variable-is {i} {e} k l = term_is nodes front i e (front_at nodes front p c g.from k) refl l refl
 
-        pub walk-next : {later : List ℕ} → Cutting after later (cell_of d (get_or nodes q 0)) (cell_of r.at.copy (get_or nodes r.at.node 0)) → Walking g.from.given.ss nodes g.from.state g.from.given.n before later p c r.at.node r.at.copy
+        pub walk-next : {later : List ℕ} → Cutting after later (cell_of d (get_or nodes q 0)) (cell_of r.at.copy (get_or nodes r.at.node 0)) → Walking g.from.given.known g.from.given.ss nodes g.from.state g.from.given.n before later p c r.at.node r.at.copy
         walk-next k =
-            let t : MeansSame g.from.given.ss nodes g.from.state g.from.given.n p c r.at.node r.at.copy = leads-trans s.leads strode.staged.leads in
+            let t : MeansSame g.from.given.known g.from.given.ss nodes g.from.state g.from.given.n p c r.at.node r.at.copy = leads-trans s.leads strode.staged.leads in
             record {
               leads = t;
               eased = eased-trans s.eased
-                  (record { beside = k.beside; cuts = k.cuts (bindings g.from.given.ss nodes g.from.state g.from.given.n) (variable-is s.leads far.from ∙ (sym strode.staged.leads.means ∙ sym (variable-is t far.to))) s.eased.cuts });
+                  (record { beside = k.beside; cuts = λ f. k.cuts (bindings g.from.given.ss nodes g.from.state g.from.given.n) (variable-is s.leads far.from ∙ (sym (strode.staged.leads.means f) ∙ sym (variable-is t far.to))) (s.eased.cuts f) });
             }
 
 -- ---- two terms
 
 module _ {nodes front before : List ℕ} {p q : At} (g : Both nodes front before p q) where
   abbrev pub right-from : Fronted nodes front q.node q.copy
-  right-from = record { state = g.left.from.state; given = record { ss = g.left.from.given.ss; n = g.left.from.given.n; store = g.left.from.given.store; node = g.node; copy = g.copy }; long = g.left.from.long; same = g.left.from.same }
+  right-from = record { state = g.left.from.state; given = record { ss = g.left.from.given.ss; n = g.left.from.given.n; store = g.left.from.given.store; known = g.left.from.given.known; acyclic = g.left.from.given.acyclic; node = g.node; copy = g.copy }; long = g.left.from.long; same = g.left.from.same }
 
   module _ {after : List ℕ} {l : At} (f : (h : Followable nodes front before p.node p.copy) → Followed h after l) where
     pub first-followed : Followed g.left after l
@@ -435,21 +436,21 @@ module _ {nodes state before : List ℕ} {p q : At} (g : Both nodes state before
   abbrev pub both_right : Fronted nodes state q.node q.copy
   both_right = right-from g
 
-  pub both-here : MeansSame g.left.from.given.ss nodes g.left.from.state g.left.from.given.n q.node q.copy q.node q.copy
+  pub both-here : MeansSame g.left.from.given.known g.left.from.given.ss nodes g.left.from.state g.left.from.given.n q.node q.copy q.node q.copy
   both-here = leads-here nodes state q.node q.copy both_right
 
-  pub both_left : MeansSame g.left.from.given.ss nodes g.left.from.state g.left.from.given.n p.node p.copy p.node p.copy
+  pub both_left : MeansSame g.left.from.given.known g.left.from.given.ss nodes g.left.from.state g.left.from.given.n p.node p.copy p.node p.copy
   both_left = leads-here nodes state p.node p.copy g.left.from
 
   -- both further on, with the words of the cells only
-  module _ {front : List ℕ} (long : cells ≤ length front) (same : (x : ℕ) → x < cells → get_or front x 0 ≡ get_or state x 0) {p1 q1 : At} (a : MeansSame g.left.from.given.ss nodes g.left.from.state g.left.from.given.n p.node p.copy p1.node p1.copy) (a1 : MeansSame g.left.from.given.ss nodes g.left.from.state g.left.from.given.n q.node q.copy q1.node q1.copy) where
+  module _ {front : List ℕ} (long : cells ≤ length front) (same : (x : ℕ) → x < cells → get_or front x 0 ≡ get_or state x 0) {p1 q1 : At} (a : MeansSame g.left.from.given.known g.left.from.given.ss nodes g.left.from.state g.left.from.given.n p.node p.copy p1.node p1.copy) (a1 : MeansSame g.left.from.given.known g.left.from.given.ss nodes g.left.from.state g.left.from.given.n q.node q.copy q1.node q1.copy) where
     abbrev pub both-far : Both nodes front before p1 q1
     both-far =
         record {
           left = record {
             from = record {
               state = g.left.from.state;
-              given = record { ss = g.left.from.given.ss; n = g.left.from.given.n; store = g.left.from.given.store; node = a.node; copy = a.copy };
+              given = record { ss = g.left.from.given.ss; n = g.left.from.given.n; store = g.left.from.given.store; known = g.left.from.given.known; acyclic = g.left.from.given.acyclic; node = a.node; copy = a.copy };
               long = long;
               same = λ x l. same x l ∙ g.left.from.same x l;
             };
@@ -469,7 +470,7 @@ module _ {nodes state before : List ℕ} {p q : At} (g : Both nodes state before
           eased = e.eased;
         }
 
-  pub both-near : {l r : Stage} → Staged g.left.from.given.ss nodes g.left.from.state g.left.from.given.n p.node p.copy l → l.next ≡ None → Staged g.left.from.given.ss nodes g.left.from.state g.left.from.given.n q.node q.copy r → r.next ≡ None → BothFollowed g before (record { left = l.at; right = r.at })
+  pub both-near : {l r : Stage} → Staged g.left.from.given.known g.left.from.given.ss nodes g.left.from.state g.left.from.given.n p.node p.copy l → l.next ≡ None → Staged g.left.from.given.known g.left.from.given.ss nodes g.left.from.state g.left.from.given.n q.node q.copy r → r.next ≡ None → BothFollowed g before (record { left = l.at; right = r.at })
   both-near a e a1 e1 =
       record {
         left = record { leads = a.leads; stops = a.stops e };

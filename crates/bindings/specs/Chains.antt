@@ -1,5 +1,5 @@
 -- Chains of variables followed by short cuts: what the functions are given and what they promise.
-use Rattle.std.specs.Prelude.{ℕ, ◌≤◌, ◌<◌, ◌≡◌, Option, Some, None, List, length, get_or}
+use Rattle.std.specs.Prelude.{ℕ, ◌≤◌, ◌<◌, ◌≡◌, Bool, T, Option, Some, None, List, length, get_or}
 use Rattle.syntax.specs.Words.{first_name}
 use Rattle.machine.specs.Substitution.{Binding}
 use Rattle.run_layout.specs.Regions.{copies, cells}
@@ -23,26 +23,26 @@ pub record Fronted (nodes front : List ℕ) (p c : ℕ) : Type 0 where
   pub long : cells ≤ length front
   pub same : (x : ℕ) → x < cells → get_or front x 0 ≡ get_or state x 0
 
--- The same, and cuts that are right.
+-- The same, and cuts that are right, where no cell is known to close a cycle.
 pub record Followable (nodes front scratch : List ℕ) (p c : ℕ) : Type 0 where
   pub from : Fronted nodes front p c
   pub roomy : Roomy scratch
-  pub cuts : Cuts (bindings from.given.ss nodes from.state from.given.n) scratch
+  pub cuts : T from.given.known → Cuts (bindings from.given.ss nodes from.state from.given.n) scratch
 
 -- The variable at p in copy c leads on to a term, that of an earlier cell or a name.
-pub record NextOfChain (ss : List Symbol) (nodes state : List ℕ) (n p c : ℕ) (a : At) : Type 0 where
+pub record NextOfChain (known : Bool) (ss : List Symbol) (nodes state : List ℕ) (n p c : ℕ) (a : At) : Type 0 where
   pub variable : get_or nodes p 0 < first_name
-  pub leads : MeansSame ss nodes state n p c a.node a.copy
+  pub leads : MeansSame known ss nodes state n p c a.node a.copy
   pub down : get_or nodes a.node 0 < first_name → cell_of a.copy (get_or nodes a.node 0) < cell_of c (get_or nodes p 0)
 
 -- Where the term at p in copy c leads on to; where that is nowhere, it is a name or an unbound variable.
-pub record Next (ss : List Symbol) (nodes state : List ℕ) (n p c : ℕ) (r : Option At) : Type 0 where
+pub record Next (known : Bool) (ss : List Symbol) (nodes state : List ℕ) (n p c : ℕ) (r : Option At) : Type 0 where
   pub stops : r ≡ None → get_or nodes p 0 < first_name → cell_at state (cell_of c (get_or nodes p 0)) ≡ 0
-  pub on : (a : At) → r ≡ Some a → NextOfChain ss nodes state n p c a
+  pub on : (a : At) → r ≡ Some a → NextOfChain known ss nodes state n p c a
 
 -- A walk from the term at p in copy c has come to another; where there is no next term, nothing leads on.
-pub record Staged (ss : List Symbol) (nodes state : List ℕ) (n p c : ℕ) (r : Stage) : Type 0 where
-  pub leads : MeansSame ss nodes state n p c r.at.node r.at.copy
+pub record Staged (known : Bool) (ss : List Symbol) (nodes state : List ℕ) (n p c : ℕ) (r : Stage) : Type 0 where
+  pub leads : MeansSame known ss nodes state n p c r.at.node r.at.copy
   pub stops : r.next ≡ None → get_or nodes r.at.node 0 < first_name → cell_at state (cell_of r.at.copy (get_or nodes r.at.node 0)) ≡ 0
 
 -- Two variables, the second of an earlier cell.
@@ -52,8 +52,8 @@ pub record Further (nodes : List ℕ) (p c q d : ℕ) : Type 0 where
   pub down : cell_of d (get_or nodes q 0) < cell_of c (get_or nodes p 0)
 
 -- The same as a walk, which has come to an earlier cell where there is a next term.
-pub record Strode (ss : List Symbol) (nodes state : List ℕ) (n p c : ℕ) (r : Stage) : Type 0 where
-  pub staged : Staged ss nodes state n p c r
+pub record Strode (known : Bool) (ss : List Symbol) (nodes state : List ℕ) (n p c : ℕ) (r : Stage) : Type 0 where
+  pub staged : Staged known ss nodes state n p c r
   pub further : (r.next ≡ None → ⊥) → Further nodes p c r.at.node r.at.copy
 
 -- Two variables.
@@ -66,15 +66,15 @@ pub record Cuttable (nodes scratch : List ℕ) (p c q d : ℕ) : Type 0 where
   pub copy_right : d < copies
   pub roomy : Roomy scratch
 
--- Only cuts and their slots changed, and the cuts are right.
-pub record Eased (b : List Binding) (before after : List ℕ) : Type 0 where
+-- Only cuts and their slots changed, and the cuts are right, where that is known.
+pub record Eased (known : Bool) (b : List Binding) (before after : List ℕ) : Type 0 where
   pub beside : CutsOnly before after
-  pub cuts : Cuts b after
+  pub cuts : T known → Cuts b after
 
 -- The term is dereferenced, and only cuts changed.
 pub record Followed {nodes front before : List ℕ} {p c : ℕ} (g : Followable nodes front before p c) (after : List ℕ) (r : At) : Type 0 where
-  pub derefs : Dereferences g.from.given.ss nodes g.from.state g.from.given.n p c r.node r.copy
-  pub eased : Eased (bindings g.from.given.ss nodes g.from.state g.from.given.n) before after
+  pub derefs : Dereferences g.from.given.known g.from.given.ss nodes g.from.state g.from.given.n p c r.node r.copy
+  pub eased : Eased g.from.given.known (bindings g.from.given.ss nodes g.from.state g.from.given.n) before after
 
 -- Two run-time terms in one store, and cuts that are right.
 pub record Both (nodes front scratch : List ℕ) (p q : At) : Type 0 where
@@ -84,6 +84,6 @@ pub record Both (nodes front scratch : List ℕ) (p q : At) : Type 0 where
 
 -- Both are dereferenced, and only cuts changed.
 pub record BothFollowed {nodes front before : List ℕ} {p q : At} (g : Both nodes front before p q) (after : List ℕ) (r : Ends) : Type 0 where
-  pub left : Dereferences g.left.from.given.ss nodes g.left.from.state g.left.from.given.n p.node p.copy r.left.node r.left.copy
-  pub right : Dereferences g.left.from.given.ss nodes g.left.from.state g.left.from.given.n q.node q.copy r.right.node r.right.copy
-  pub eased : Eased (bindings g.left.from.given.ss nodes g.left.from.state g.left.from.given.n) before after
+  pub left : Dereferences g.left.from.given.known g.left.from.given.ss nodes g.left.from.state g.left.from.given.n p.node p.copy r.left.node r.left.copy
+  pub right : Dereferences g.left.from.given.known g.left.from.given.ss nodes g.left.from.state g.left.from.given.n q.node q.copy r.right.node r.right.copy
+  pub eased : Eased g.left.from.given.known (bindings g.left.from.given.ss nodes g.left.from.state g.left.from.given.n) before after

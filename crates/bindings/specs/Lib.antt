@@ -1,7 +1,6 @@
 pub mod Cells
-pub mod Queues
+pub mod Plain
 pub mod Scratch
 pub mod Chains
 pub mod Cuts
 pub mod Memos
-pub mod Orders

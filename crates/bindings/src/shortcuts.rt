@@ -76,7 +76,7 @@ fn put_cut(scratch: &mut [u32], x: usize, y: usize)
 fn next_from(nodes: &[u32], front: &[u32], scratch: &[u32], at: At) -> Option<At>
     requires { Followable nodes.now front.now scratch.now at.node at.copy }
     ensures { (g : Followable nodes.now front.now scratch.now at.node at.copy)
-        → Next g.from.given.ss nodes.now g.from.state g.from.given.n at.node at.copy result }
+        → Next g.from.given.known g.from.given.ss nodes.now g.from.state g.from.given.n at.node at.copy result }
 {
     let v = word_at(nodes, at.node);
     if FIRST_NAME <= v {
@@ -95,7 +95,7 @@ fn next_from(nodes: &[u32], front: &[u32], scratch: &[u32], at: At) -> Option<At
 fn stride(nodes: &[u32], front: &[u32], scratch: &[u32], from: At) -> Stage
     requires { Followable nodes.now front.now scratch.now from.node from.copy }
     ensures { (g : Followable nodes.now front.now scratch.now from.node from.copy)
-        → Strode g.from.given.ss nodes.now g.from.state g.from.given.n from.node from.copy result }
+        → Strode g.from.given.known g.from.given.ss nodes.now g.from.state g.from.given.n from.node from.copy result }
 {
     let mut at = from;
     let mut next = next_from(nodes, front, scratch, from);
@@ -143,7 +143,7 @@ fn walk_on(nodes: &[u32], front: &[u32], scratch: &mut [u32], from: At) -> At
 fn lead(nodes: &[u32], front: &[u32], from: At) -> Stage
     requires { Fronted nodes.now front.now from.node from.copy }
     ensures { (g : Fronted nodes.now front.now from.node from.copy)
-        → Staged g.given.ss nodes.now g.state g.given.n from.node from.copy result }
+        → Staged g.given.known g.given.ss nodes.now g.state g.given.n from.node from.copy result }
 {
     let Some(first) = bound_at(nodes, front, from) else {
         return Stage {

@@ -34,8 +34,8 @@ pub fn bound_at(nodes: &[u32], state: &[u32], at: At) -> Option<At>
 /// Where a term leads: to a name, or to an unbound variable.
 pub fn deref(nodes: &[u32], state: &[u32], from: At) -> At
     requires { StoredTerm nodes.now state.now from.node from.copy }
-    ensures { (g : StoredTerm nodes.now state.now from.node from.copy) → Dereferences g.ss nodes.now state.now g.n from.node from.copy
-        result.node result.copy }
+    ensures { (g : StoredTerm nodes.now state.now from.node from.copy) → Dereferences g.known g.ss nodes.now state.now g.n from.node
+        from.copy result.node result.copy }
 {
     let mut at = from;
     // How many links a chain has is known only at its end.

@@ -15,7 +15,7 @@ use Rattle.run_layout.proofs.Limits.{program-limited}
 use Rattle.run_layout.specs.Regions.{nodes_words, code_words, store_words, narrow_words}
 use Rattle.run_layout.specs.Limits.{GoalLimited}
 use Rattle.run_layout.specs.Program.{Program}
-use Rattle.run_layout.proofs.State.{no-entries}
+use Rattle.run_layout.proofs.State.{no-bindings}
 use Rattle.load.specs.declared.records.Compiled.{Compiled}
 use Rattle.load.specs.Loading.{Loadable, Loaded}
 use Rattle.load.specs.Linking.{Linkable}
@@ -35,7 +35,7 @@ module _ {declared : Declarations} {table : List ℕ} {k : ℕ} {program : Compi
   pairable w = record {
     linked = w;
     blank = record {
-      store = no-entries w.ss program.nodes.now state (omega (arith, z.long)) w.program.small (λ i l. z.zero_words i);
+      store = no-bindings w.ss program.nodes.now state (omega (arith, z.long)) w.program.small (λ i l. z.zero_words i);
       roomy = omega (arith, y.long);
       clean = record { long = omega (arith, y.long); zero = λ i l. y.zero_words i };
     };

@@ -27,6 +27,7 @@ use Rattle.run_layout.proofs.Nodes.{node-inside, node_end}
 use Rattle.run_layout.proofs.Pile.{clause-low, next-for, next-clause, next-head}
 use Rattle.bindings.specs.Scratch.{Roomy}
 use Rattle.bindings.specs.Cells.{Stored, Undone}
+use Rattle.bindings.proofs.Deref.{undone-store}
 use Rattle.unify.specs.Turns.{answered}
 use Rattle.unify.specs.declared.solve.UnifyAnswer.{UnifyAnswer}
 use Rattle.determinacy.specs.Clauses.{told_number}
@@ -130,7 +131,7 @@ module _ {nodes code state scratch : List ℕ} {i j marks : ℕ} (w : PairOf nod
 
         pub pair-stored : Stored state1 u.trail
         unfolding pair-joinable
-        pair-stored = record { ss = w.one.ss; nodes = nodes; store = joins-so.store }
+        pair-stored = record { ss = w.one.ss; nodes = nodes; store = joins-so.store.raw }
 
         joined_by : (b : Bool) (x : List Binding) → is_joined (answered b x) ≡ b
         unfolding is_joined answered
@@ -161,12 +162,12 @@ module _ {nodes code state scratch : List ℕ} {i j marks : ℕ} (w : PairOf nod
 
         pub pair-overlaps : {state2 : List ℕ} → Undone state1 state2 0 u.trail → OverlapAnswer w state2 scratch1 u.equal
         unfolding pair-joinable
-        pair-overlaps z =
+        pair-overlaps {state2 = state2} z =
             let a : length scratch1 ≡ length scratch = joins-so.long in
             let b : Roomy scratch = w.one.blank.roomy in
             record {
               is = sym (overlaps-is ∙ ap is_joined answer-is ∙ joined_by u.equal (bindings w.one.ss nodes state1 u.trail));
-              blank = record { store = z.store w.one.ss nodes joins-so.store; roomy = omega arith; clean = joins-so.clean };
+              blank = record { store = undone-store w.one.ss nodes state1 state2 0 u.trail (omega arith) z joins-so.store; roomy = omega arith; clean = joins-so.clean };
             }
 
 -- ---- the clauses behind one

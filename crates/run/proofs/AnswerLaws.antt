@@ -23,6 +23,7 @@ use Rattle.run_layout.specs.Pile.{pile_of, mark_at}
 use Rattle.machine.specs.Low.{Low}
 use Rattle.run_layout.proofs.Pile.{height, undone, Means}
 use Rattle.bindings.specs.Cells.{Stored, Undone}
+use Rattle.bindings.proofs.Deref.{undone-store}
 use Rattle.answers.specs.Fitting.{Answerable, SomeAnswerable, Fitted}
 use Rattle.bindings.specs.Scratch.{SameMarks, Roomy}
 use Rattle.run.specs.Meanings.{Meaning, pile_in, PiledIn}
@@ -94,7 +95,7 @@ module _ {state : List ℕ} {h n : ℕ} (w : Rewindable state h n) where
   rewind-room = let x : h ≤ most_alternatives = height w.meaning.ss w.meaning.sh w.meaning.g w.meaning.nodes w.meaning.code state h n w.piled w.low in let y : state_words ≤ length state = w.piled.long in let z : 1 ≤ h = w.some in omega arith
 
   pub rewind-stored : Stored state n
-  rewind-stored = record { ss = w.meaning.ss; nodes = w.meaning.nodes; store = w.piled.store }
+  rewind-stored = record { ss = w.meaning.ss; nodes = w.meaning.nodes; store = w.piled.store.raw }
 
   top-low : h - 1 < h
   top-low = let z : 1 ≤ h = w.some in omega arith
@@ -105,7 +106,7 @@ module _ {state : List ℕ} {h n : ℕ} (w : Rewindable state h n) where
   module _ {after : List ℕ} (u : Undone state after (mark_at state (h - 1)) n) where
     rewinds : (j : ℕ) → h ≡ suc j → Undone state after (mark_at state j) n → (m : Meaning) → PiledIn m state (suc j) n → SamePile m state after (suc j) (mark_at state j)
     rewinds j e v m p =
-        let x : Means m.ss m.sh m.g m.nodes m.code after (suc j) (mark_at state j) (pile_in m state (suc j)) = undone m.ss m.sh m.g m.nodes m.code state after j n (mark_at state j) p refl v.keeps (v.store m.ss m.nodes p.store) in
+        let x : Means m.ss m.sh m.g m.nodes m.code after (suc j) (mark_at state j) (pile_in m state (suc j)) = undone m.ss m.sh m.g m.nodes m.code state after j n (mark_at state j) p refl v.keeps (undone-store m.ss m.nodes state after (mark_at state j) n (p.each j (omega arith)).mark v p.store) in
         record { piled = x.piled; is = x.is }
 
     rewound-by : (j : ℕ) → h ≡ suc j → (m : Meaning) → PiledIn m state h n → SamePile m state after h (mark_at state (h - 1))

@@ -20,7 +20,7 @@ use Rattle.run_layout.specs.Nodes.{Symbol, TermLoaded}
 use Rattle.run_layout.specs.State.{copy_of, cell_at, trail_at, bindings, WithinCopies}
 use Rattle.run_layout.specs.Program.{head_at, body_at, after_at, record_kind, record_place, other_at}
 use Rattle.run_layout.specs.Pile.{Calls, rest_from, left_from, calls_up_to, copy_at, literal_at, next_at, mark_at, path_at, alternative_at, pile_of, NextFor, Piled}
-use Rattle.bindings.specs.Queues.{Closed}
+use Rattle.bindings.specs.Plain.{Closed}
 use Rattle.bindings.proofs.Apart.{closed-within}
 use Rattle.unify.specs.Turns.{answered, Unifiable, UnifyGives}
 use Rattle.unify.specs.declared.solve.UnifyAnswer.{UnifyAnswer}
@@ -92,7 +92,7 @@ module _ (nodes code state scratch : List ℕ) (j k : ℕ) (w : Tryable nodes co
   pub try-closed-top : Closed (path_at state j + 1) state
   try-closed-top =
       let p : path_at state j < longest_path = w.low in
-      closed-within ss nodes state (mark_at state j) (path_at state j) w.piled.store (top-stacked ss sh g nodes code state j (mark_at state j) w.piled).within (omega arith)
+      closed-within ss nodes state (mark_at state j) (path_at state j) w.piled.store.raw (top-stacked ss sh g nodes code state j (mark_at state j) w.piled).within (omega arith)
 
   module _ (state1 later : List ℕ) (r : UnifyAnswer)
       (u : (v : Unifiable nodes state scratch (record { node = record_place code (literal_at state j); copy = copy_at state j }) (record { node = head_at code k; copy = path_at state j + 1 }) (mark_at state j)) → UnifyGives v state1 later r) where

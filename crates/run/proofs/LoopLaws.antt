@@ -21,7 +21,7 @@ use Rattle.machine.specs.Answers.{line}
 use Rattle.machine.specs.Runs.{Progress, Ended, is_empty, is_answer, next_line, goes_deeper, run_from}
 use Rattle.run_layout.specs.State.{bindings}
 use Rattle.run_layout.specs.Pile.{pile_of, mark_at}
-use Rattle.bindings.specs.Queues.{Clean}
+use Rattle.bindings.specs.Plain.{Clean}
 use Rattle.bindings.specs.Scratch.{Roomy}
 use Rattle.run.specs.Meanings.{Meaning, pile_in, PiledIn}
 use Rattle.run.specs.declared.telling.Next.TheVariants.{End, Answer, Step}

@@ -10,7 +10,7 @@ use Rattle.syntax.specs.Limits.{longest_path}
 use Rattle.run_layout.specs.Regions.{split_kind, places, bodies, state_words, most_alternatives, frame_of, alternative_of, literal_size, next_literal, frame_size, alternative_size, clause_record}
 use Rattle.run_layout.specs.Program.{head_at, body_at, after_at, record_kind, record_place, other_at}
 use Rattle.run_layout.specs.Pile.{copy_at, literal_at, next_at, mark_at, path_at}
-use Rattle.bindings.specs.Queues.{Closed}
+use Rattle.bindings.specs.Plain.{Closed}
 use Rattle.unify.specs.Turns.{Unifiable, UnifyGives}
 use Rattle.unify.specs.declared.solve.UnifyAnswer.{UnifyAnswer}
 use Rattle.run.specs.Words.{top_at, next_words, frame_words}

@@ -19,6 +19,7 @@ use Rattle.run_layout.specs.Nodes.{Symbol}
 use Rattle.run_layout.specs.Program.{body_at, record_kind}
 use Rattle.run_layout.specs.Pile.{Calls, rest_from, left_behind, left_from, copy_at, literal_at, next_at, mark_at, path_at, alternative_at, pile_of, NextFor, Piled}
 use Rattle.bindings.specs.Cells.{Stored, Undone}
+use Rattle.bindings.proofs.Deref.{undone-store}
 use Rattle.run.specs.Words.{top_at}
 use Rattle.run.specs.Moves.{Layable, AlternativeLaid}
 use Rattle.run.specs.Meanings.{pile_in}
@@ -35,7 +36,7 @@ use Rattle.run.proofs.ReadLaws.{lay-ends, layable-of}
 
 module _ (nodes code state scratch : List ℕ) (j n : ℕ) (w : Steppable nodes code state scratch (suc j) n) (mid : List ℕ) (u : Undone state mid (mark_at state j) n) where
   undo-means : Means w.running.ss w.running.sh w.running.g nodes code mid (suc j) (mark_at state j) (pile_in (meaning w.running) state (suc j))
-  undo-means = undone w.running.ss w.running.sh w.running.g nodes code state mid j n (mark_at state j) w.running.piled refl u.keeps (u.store w.running.ss nodes w.running.piled.store)
+  undo-means = undone w.running.ss w.running.sh w.running.g nodes code state mid j n (mark_at state j) w.running.piled refl u.keeps (undone-store w.running.ss nodes state mid (mark_at state j) n (top-stacked w.running.ss w.running.sh w.running.g nodes code state j n w.running.piled).mark u w.running.piled.store)
 
   same-mark : mark_at mid j ≡ mark_at state j
   same-mark = u.keeps.others (alternative_of j + 3) (omega arith)
@@ -68,7 +69,7 @@ module _ {nodes code state scratch : List ℕ} {h n : ℕ} (w : Steppable nodes 
     mark-is = ap (λ (x : Top). x.mark) is
 
     pub step-stored : Stored state n
-    step-stored = record { ss = w.running.ss; nodes = nodes; store = w.running.piled.store }
+    step-stored = record { ss = w.running.ss; nodes = nodes; store = w.running.piled.store.raw }
 
     pub step-mark : s.mark ≤ n
     step-mark =

@@ -26,10 +26,10 @@ at_top P f (suc j) l = subst⁻¹ (P (suc j)) (less_one j) (f j)
 
 -- a trail's entries are distinct cells
 pub trail_low : (ss : List Symbol) (nodes state : List ℕ) (n : ℕ) → Store ss nodes state n → n ≤ cells
-trail_low ss nodes state n s = pigeonhole cells n (trail_at state) (λ i l. (s.entry i l).cell) same-entry
+trail_low ss nodes state n s = pigeonhole cells n (trail_at state) (λ i l. (s.raw.entry i l).cell) same-entry
   where
     same-entry : (i j : ℕ) → i < n → j < n → trail_at state i ≡ trail_at state j → i ≡ j
-    same-entry i j l h e = let a : i < j → ⊥ = (λ q. s.apart i j q h e) in let b : j < i → ⊥ = (λ q. s.apart j i q l (sym e)) in omega (arith, a, b)
+    same-entry i j l h e = let a : i < j → ⊥ = (λ q. s.raw.apart i j q h e) in let b : j < i → ⊥ = (λ q. s.raw.apart j i q l (sym e)) in omega (arith, a, b)
 
 pub head-eq : (x y : Alternative) (xs ys : List Alternative) → x ∷ xs ≡ y ∷ ys → x ≡ y
 head-eq x y xs ys e = let r : x ≡ y = cc in r

@@ -8,7 +8,7 @@ use Rattle.machine.specs.Runs.{Ended, run}
 use Rattle.run_layout.specs.Regions.{state_words}
 use Rattle.run_layout.specs.Nodes.{Symbol}
 use Rattle.run_layout.specs.Program.{Program}
-use Rattle.bindings.specs.Queues.{Clean}
+use Rattle.bindings.specs.Plain.{Clean}
 use Rattle.run.specs.Meanings.{Meaning, pile_in, PiledIn}
 use Rattle.run.specs.declared.telling.LoadedProgram.{LoadedProgram}
 use Rattle.run.specs.Telling.{Spelt, LentScratch}

@@ -8,7 +8,7 @@ use Rattle.run_layout.specs.Regions.{state_words}
 use Rattle.run_layout.specs.Nodes.{Symbol}
 use Rattle.run_layout.specs.Program.{Program, record_kind}
 use Rattle.run_layout.specs.Pile.{literal_at, mark_at, pile_of, Piled}
-use Rattle.bindings.specs.Queues.{Clean}
+use Rattle.bindings.specs.Plain.{Clean}
 use Rattle.bindings.specs.Scratch.{Roomy}
 use Rattle.run.specs.Words.{top_at}
 use Rattle.run.specs.Meanings.{Meaning, pile_in, PiledIn}

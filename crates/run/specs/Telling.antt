@@ -10,7 +10,7 @@ use Rattle.run_layout.specs.Regions.{deepest, open_size, stack}
 use Rattle.run_layout.specs.Nodes.{Symbol}
 use Rattle.run_layout.specs.State.{bindings}
 use Rattle.run_layout.specs.Pile.{mark_at}
-use Rattle.bindings.specs.Queues.{Clean}
+use Rattle.bindings.specs.Plain.{Clean}
 use Rattle.bindings.specs.Scratch.{Roomy}
 use Rattle.syntax.specs.Spans.{names_from}
 use Rattle.run_layout.specs.SymbolNames.{SymbolsSpelt}

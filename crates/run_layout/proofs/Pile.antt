@@ -21,7 +21,7 @@ use Rattle.run_layout.specs.State.{bindings, Store, WithinCopies, SameBindings, 
 use Rattle.run_layout.specs.Program.{body_at, record_kind, record_place, other_at, PlainLoaded, BodyLoaded, Program}
 use Rattle.run_layout.specs.Pile.{body_in, body_of, body_then, drop_body, atom_in, first_atom, Calls, clause_in, caller_of, call_of, rest_from, left_behind, left_from, calls_up_to, copy_at, literal_at, next_at, mark_at, path_at, alternative_at, pile_of, RecordOf, NoJump, Frame, NextFor, Stacked, Piled}
 use Rattle.run_layout.proofs.Places.{Item, the_end, a_literal, a_split, a_jump, item-at, drop-none, body-first}
-use Rattle.run_layout.proofs.State.{bindings-agree, agrees, within-agrees, SameStore, same-agrees, store_same, bindings-same, no-entries}
+use Rattle.run_layout.proofs.State.{bindings-agree, agrees, within-agrees, SameStore, same-agrees, store_same, bindings-same, no-bindings}
 
 -- ---- bodies
 
@@ -976,7 +976,7 @@ started ss sh g nodes code state after x program long zeros next w =
     let empty : Piled ss sh g nodes code state 0 0 =
     record {
       program = program;
-      store = no-entries ss nodes state (omega arith) program.small (λ y q. zeros y);
+      store = no-bindings ss nodes state (omega arith) program.small (λ y q. zeros y);
       long = long;
       each = λ j q. absurd (let z : j < 0 = q in omega arith);
       longer = λ i j q r. absurd (let z : j < 0 = r in omega arith);

@@ -22,7 +22,7 @@ use Rattle.machine.proofs.Tests.{some-none}
 use Rattle.run_layout.specs.Program.{body_at, record_kind, BodyLoaded, Program}
 use Rattle.run_layout.specs.Pile.{Piled}
 use Rattle.run_layout.proofs.Pile.{Means, started, written}
-use Rattle.run_layout.proofs.State.{no-entries, bind-store}
+use Rattle.run_layout.proofs.State.{no-bindings, bind-raw, bind-acyclic}
 
 -- the symbol f with one argument, and the table of f(X)
 unfoldable pub symbols : List Symbol
@@ -41,7 +41,7 @@ state = replicate store_words 0
 
 pub empty : Store symbols table state 0
 unfolding table state
-empty = no-entries symbols table state (let e : length state ≡ store_words = length-replicate {A = ℕ} store_words 0 in omega arith) (omega arith) (λ x l. get_or-replicate {A = ℕ} store_words x 0 0 (omega arith))
+empty = no-bindings symbols table state (let e : length state ≡ store_words = length-replicate {A = ℕ} store_words 0 in omega arith) (omega arith) (λ x l. get_or-replicate {A = ℕ} store_words x 0 0 (omega arith))
 
 unbound : get_or state 0 0 ≡ 0
 unfolding state
@@ -50,7 +50,11 @@ unbound = get_or-replicate {A = ℕ} store_words 0 0 0 (omega arith)
 -- variable 0 of the goal is bound to f(X) of copy 1
 pub witness : Store symbols table (bound_words state 0 0 (word_of 0 1)) 1
 unfolding table symbols bindings resolve term_at decoded name_of_symbol
-witness = bind-store symbols table state 0 0 0 1 empty (omega arith) unbound (omega arith) node (λ l. absurd (let k : first_name < first_name = l in omega arith)) (λ h. h)
+witness =
+    record {
+      raw = bind-raw symbols table state 0 0 0 1 empty.raw (omega arith) unbound (omega arith) node (λ l. absurd (let k : first_name < first_name = l in omega arith));
+      acyclic = bind-acyclic symbols table state 0 0 0 1 empty.raw (omega arith) unbound (omega arith) empty.acyclic (λ h. h);
+    }
 
 -- ---- no clauses, and the goal `true.`
 

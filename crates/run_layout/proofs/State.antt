@@ -13,7 +13,7 @@ use Rattle.machine.specs.Substitution.{Variable, same_variable, RTerm, RTerms, v
 use Rattle.machine.proofs.Tests.{variable-eq, variable-refl, or_left, or_right}
 use Rattle.run_layout.specs.Regions.{copies, copy_cells, places, cells, trail, store_words}
 use Rattle.run_layout.specs.Nodes.{Symbol, Node, term_at}
-use Rattle.run_layout.specs.State.{cell_of, variable_of, word_of, node_of, copy_of, cell_at, trail_at, value_of, bindings, TrailEntry, Store, WithinCopies, SameBindings, BindingsKept, bound_words}
+use Rattle.run_layout.specs.State.{cell_of, variable_of, word_of, node_of, copy_of, cell_at, trail_at, value_of, bindings, TrailEntry, ClosesCycle, Acyclic, RawStore, Store, WithinCopies, SameBindings, BindingsKept, bound_words}
 use Rattle.run_layout.proofs.Pigeonhole.{pigeonhole}
 
 -- ---- cells and their words
@@ -120,7 +120,7 @@ module _ (ss : List Symbol) (nodes state : List ℕ) where
       ∙ replace-away (variable_of (trail_at state n)) (resolve (bindings ss nodes state n) (value_of ss nodes (cell_at state (trail_at state n)))) (var (variable_of x)) (λ h. z n (omega arith) (cell-eq (trail_at state n) x (variable-eq (variable_of (trail_at state n)) (variable_of x) h)))
 
   -- an entry's variable stands for its term
-  entry-is : (n i : ℕ) → i < n → ((j : ℕ) → j < n → TrailEntry ss nodes state j) → ((j k : ℕ) → j < k → k < n → trail_at state j ≡ trail_at state k → ⊥)
+  entry-is : (n i : ℕ) → i < n → Acyclic ss nodes state n → ((j k : ℕ) → j < k → k < n → trail_at state j ≡ trail_at state k → ⊥)
       → resolve (bindings ss nodes state n) (var (variable_of (trail_at state i))) ≡ resolve (bindings ss nodes state n) (value_of ss nodes (cell_at state (trail_at state i)))
   unfolding bindings resolve
   entry-is zero i l f a = absurd (let z : i < 0 = l in omega arith)
@@ -133,7 +133,7 @@ module _ (ss : List Symbol) (nodes state : List ℕ) where
       here =
           ap put (none_of n (trail_at state n) (λ j q. a j n q (omega arith)))
           ∙ (replace-self (variable_of (trail_at state n)) (resolve (bindings ss nodes state n) (value_of ss nodes (cell_at state (trail_at state n))))
-          ∙ sym (replace-away (variable_of (trail_at state n)) (resolve (bindings ss nodes state n) (value_of ss nodes (cell_at state (trail_at state n)))) (resolve (bindings ss nodes state n) (value_of ss nodes (cell_at state (trail_at state n)))) (f n (omega arith)).free))
+          ∙ sym (replace-away (variable_of (trail_at state n)) (resolve (bindings ss nodes state n) (value_of ss nodes (cell_at state (trail_at state n)))) (resolve (bindings ss nodes state n) (value_of ss nodes (cell_at state (trail_at state n)))) (f n (omega arith))))
 
       go : (b : Bool) → eqb i n ≡ b
           → (i < n → resolve (bindings ss nodes state n) (var (variable_of (trail_at state i))) ≡ resolve (bindings ss nodes state n) (value_of ss nodes (cell_at state (trail_at state i))))
@@ -141,12 +141,12 @@ module _ (ss : List Symbol) (nodes state : List ℕ) where
       go true e ih = subst (λ (k : ℕ). put (resolve (bindings ss nodes state n) (var (variable_of (trail_at state k)))) ≡ put (resolve (bindings ss nodes state n) (value_of ss nodes (cell_at state (trail_at state k))))) (sym (eqb-true i n e)) here
       go false e ih = ap put (ih (let z : i ≡ n → ⊥ = eqb-false i n e in omega (arith, z)))
 
-module _ (ss : List Symbol) (nodes state : List ℕ) (n x : ℕ) (store : Store ss nodes state n) (small : x < cells) where
+module _ (ss : List Symbol) (nodes state : List ℕ) (n x : ℕ) (store : RawStore ss nodes state n) (small : x < cells) where
   -- dereferencing keeps the resolved term
-  pub resolve-bound : (cell_at state x ≡ 0 → ⊥) → resolve (bindings ss nodes state n) (var (variable_of x)) ≡ resolve (bindings ss nodes state n) (value_of ss nodes (cell_at state x))
-  resolve-bound z =
+  pub resolve-bound : Acyclic ss nodes state n → (cell_at state x ≡ 0 → ⊥) → resolve (bindings ss nodes state n) (var (variable_of x)) ≡ resolve (bindings ss nodes state n) (value_of ss nodes (cell_at state x))
+  resolve-bound acyclic z =
       let o : (i : ℕ) × (i < n) × (trail_at state i ≡ x) = store.only x small z in
-      subst (λ (y : ℕ). resolve (bindings ss nodes state n) (var (variable_of y)) ≡ resolve (bindings ss nodes state n) (value_of ss nodes (cell_at state y))) o.2 (entry-is ss nodes state n o.0 o.1 store.entry store.apart)
+      subst (λ (y : ℕ). resolve (bindings ss nodes state n) (var (variable_of y)) ≡ resolve (bindings ss nodes state n) (value_of ss nodes (cell_at state y))) o.2 (entry-is ss nodes state n o.0 o.1 acyclic store.apart)
 
   unbound-apart : cell_at state x ≡ 0 → (i : ℕ) → i < n → trail_at state i ≡ x → ⊥
   unbound-apart z i l e = (store.entry i l).bound (ap (cell_at state) e ∙ z)
@@ -223,16 +223,26 @@ entry-agrees : (ss : List Symbol) (nodes before after : List ℕ) (i n : ℕ) �
 entry-agrees ss nodes before after i n l k e =
     let t : trail_at after i ≡ trail_at before i = k.entry i l in
     let c : cell_at after (trail_at after i) ≡ cell_at before (trail_at before i) = ap (cell_at after) t ∙ k.cell i l in
-    let b : bindings ss nodes after i ≡ bindings ss nodes before i = bindings-agree ss nodes before after i n (omega arith) k in
     record {
       cell = subst⁻¹ (λ (y : ℕ). y < cells) t e.cell;
       bound = λ z. e.bound (sym c ∙ z);
       node = subst⁻¹ (λ (y : ℕ). Node ss nodes (node_of y)) c e.node;
       down = subst⁻¹ (λ (y : ℕ). get_or nodes (node_of y) 0 < first_name → cell_of (copy_of y) (get_or nodes (node_of y) 0) < trail_at after i) c (subst⁻¹ (λ (y : ℕ). get_or nodes (node_of (cell_at before (trail_at before i))) 0 < first_name → cell_of (copy_of (cell_at before (trail_at before i))) (get_or nodes (node_of (cell_at before (trail_at before i))) 0) < y) t e.down);
-      free = λ h. e.free (subst (λ (o : RTerm). T (occurs (variable_of (trail_at before i)) o)) (ap₂ (λ (x : List Binding) (y : ℕ). resolve x (value_of ss nodes y)) b c) (subst (λ (y : ℕ). T (occurs (variable_of y) (resolve (bindings ss nodes after i) (value_of ss nodes (cell_at after (trail_at after i)))))) t h));
     }
 
-module _ (ss : List Symbol) (nodes state : List ℕ) (n x q d : ℕ) (store : Store ss nodes state n) (small : x < cells) (unbound : cell_at state x ≡ 0) (copy : d < copies) where
+-- it closes a cycle if it did before
+pub closing-agrees : (ss : List Symbol) (nodes before after : List ℕ) (i n : ℕ) → i < n → SameBindings n before after → ClosesCycle ss nodes after i → ClosesCycle ss nodes before i
+closing-agrees ss nodes before after i n l k h =
+    let t : trail_at after i ≡ trail_at before i = k.entry i l in
+    let c : cell_at after (trail_at after i) ≡ cell_at before (trail_at before i) = ap (cell_at after) t ∙ k.cell i l in
+    let b : bindings ss nodes after i ≡ bindings ss nodes before i = bindings-agree ss nodes before after i n (omega arith) k in
+    subst (λ (o : RTerm). T (occurs (variable_of (trail_at before i)) o)) (ap₂ (λ (x : List Binding) (y : ℕ). resolve x (value_of ss nodes y)) b c)
+    (subst (λ (y : ℕ). T (occurs (variable_of y) (resolve (bindings ss nodes after i) (value_of ss nodes (cell_at after (trail_at after i)))))) t h)
+
+pub acyclic-agrees : (ss : List Symbol) (nodes before after : List ℕ) (n : ℕ) → SameBindings n before after → Acyclic ss nodes before n → Acyclic ss nodes after n
+acyclic-agrees ss nodes before after n k f i l h = f i l (closing-agrees ss nodes before after i n l k h)
+
+module _ (ss : List Symbol) (nodes state : List ℕ) (n x q d : ℕ) (store : RawStore ss nodes state n) (small : x < cells) (unbound : cell_at state x ≡ 0) (copy : d < copies) where
   space : n < cells
   space = room ss nodes state n x store small unbound
 
@@ -263,12 +273,43 @@ module _ (ss : List Symbol) (nodes state : List ℕ) (n x q d : ℕ) (store : St
       let c : value_of ss nodes (cell_at (bound_words state n x (word_of q d)) (trail_at (bound_words state n x (word_of q d)) n)) ≡ term_at ss nodes q d = ap (value_of ss nodes) new-cell ∙ value in
       λ i. record { variable = variable_of (t i); term = resolve (b i) (c i) } ∷ b i
 
-  module _ (node : Node ss nodes q) (down : get_or nodes q 0 < first_name → cell_of d (get_or nodes q 0) < x) (free : T (occurs (variable_of x) (resolve (bindings ss nodes state n) (term_at ss nodes q d))) → ⊥) where
+  -- the new entry closes a cycle where the variable stands in the term
+  pub bind-closing : occurs (variable_of (trail_at (bound_words state n x (word_of q d)) n))
+      (resolve (bindings ss nodes (bound_words state n x (word_of q d)) n) (value_of ss nodes (cell_at (bound_words state n x (word_of q d)) (trail_at (bound_words state n x (word_of q d)) n))))
+      ≡ occurs (variable_of x) (resolve (bindings ss nodes state n) (term_at ss nodes q d))
+  bind-closing =
+      let t : trail_at (bound_words state n x (word_of q d)) n ≡ x = bound-entry state n x (word_of q d) store.long space small in
+      let b : bindings ss nodes (bound_words state n x (word_of q d)) n ≡ bindings ss nodes state n = bindings-keep ss nodes state (bound_words state n x (word_of q d)) n n (omega arith) bind-keeps in
+      let c : value_of ss nodes (cell_at (bound_words state n x (word_of q d)) (trail_at (bound_words state n x (word_of q d)) n)) ≡ term_at ss nodes q d = ap (value_of ss nodes) new-cell ∙ value in
+      λ i. occurs (variable_of (t i)) (resolve (b i) (c i))
+
+  -- the entries before are as they were
+  pub bind-closed : (i : ℕ) → i < n → ClosesCycle ss nodes (bound_words state n x (word_of q d)) i → ClosesCycle ss nodes state i
+  bind-closed i l = closing-agrees ss nodes state (bound_words state n x (word_of q d)) i n l (agrees n state (bound_words state n x (word_of q d)) bind-keeps)
+
+  pub bind-earlier : Acyclic ss nodes (bound_words state n x (word_of q d)) (suc n) → Acyclic ss nodes state n
+  bind-earlier f i l h =
+      f i (omega arith) (closing-agrees ss nodes (bound_words state n x (word_of q d)) state i n l back h)
+    where
+      back : SameBindings n (bound_words state n x (word_of q d)) state
+      back =
+          record {
+            entry = λ j o. sym (bind-keeps.entry j o);
+            cell = λ j o. ap (cell_at state) (bind-keeps.entry j o) ∙ (sym (bind-keeps.cell j o) ∙ ap (cell_at (bound_words state n x (word_of q d))) (sym (bind-keeps.entry j o)));
+          }
+
+  pub bind-acyclic : Acyclic ss nodes state n → (T (occurs (variable_of x) (resolve (bindings ss nodes state n) (term_at ss nodes q d))) → ⊥) → Acyclic ss nodes (bound_words state n x (word_of q d)) (suc n)
+  bind-acyclic f z i l h = go (eqb i n) refl
+    where
+      go : (b : Bool) → eqb i n ≡ b → ⊥
+      go true e = z (subst T bind-closing (subst (ClosesCycle ss nodes (bound_words state n x (word_of q d))) (eqb-true i n e) h))
+      go false e = let o : i < n = (let q1 : i ≡ n → ⊥ = eqb-false i n e in omega (arith, q1)) in f i o (bind-closed i o h)
+
+  module _ (node : Node ss nodes q) (down : get_or nodes q 0 < first_name → cell_of d (get_or nodes q 0) < x) where
     new-entry : TrailEntry ss nodes (bound_words state n x (word_of q d)) n
     new-entry =
         let t : trail_at (bound_words state n x (word_of q d)) n ≡ x = bound-entry state n x (word_of q d) store.long space small in
         let c : cell_at (bound_words state n x (word_of q d)) (trail_at (bound_words state n x (word_of q d)) n) ≡ word_of q d = new-cell in
-        let b : bindings ss nodes (bound_words state n x (word_of q d)) n ≡ bindings ss nodes state n = bindings-keep ss nodes state (bound_words state n x (word_of q d)) n n (omega arith) bind-keeps in
         let nd : node_of (cell_at (bound_words state n x (word_of q d)) (trail_at (bound_words state n x (word_of q d)) n)) ≡ q = ap node_of c ∙ node-word q d copy in
         let cp : copy_of (cell_at (bound_words state n x (word_of q d)) (trail_at (bound_words state n x (word_of q d)) n)) ≡ d = ap copy_of c ∙ copy-word q d copy in
         record {
@@ -278,11 +319,10 @@ module _ (ss : List Symbol) (nodes state : List ℕ) (n x q d : ℕ) (store : St
           down = subst⁻¹ (λ (y : ℕ). get_or nodes y 0 < first_name → cell_of (copy_of (cell_at (bound_words state n x (word_of q d)) (trail_at (bound_words state n x (word_of q d)) n))) (get_or nodes y 0) < trail_at (bound_words state n x (word_of q d)) n) nd
               (subst⁻¹ (λ (y : ℕ). get_or nodes q 0 < first_name → cell_of y (get_or nodes q 0) < trail_at (bound_words state n x (word_of q d)) n) cp
               (subst⁻¹ (λ (y : ℕ). get_or nodes q 0 < first_name → cell_of d (get_or nodes q 0) < y) t down));
-          free = λ h. free (subst (λ (o : RTerm). T (occurs (variable_of x) o)) (ap₂ resolve b (ap (value_of ss nodes) c ∙ value)) (subst (λ (y : ℕ). T (occurs (variable_of y) (resolve (bindings ss nodes (bound_words state n x (word_of q d)) n) (value_of ss nodes (cell_at (bound_words state n x (word_of q d)) (trail_at (bound_words state n x (word_of q d)) n)))))) t h));
         }
 
-    pub bind-store : Store ss nodes (bound_words state n x (word_of q d)) (suc n)
-    bind-store =
+    pub bind-raw : RawStore ss nodes (bound_words state n x (word_of q d)) (suc n)
+    bind-raw =
         record {
           long = (let e : length (bound_words state n x (word_of q d)) ≡ length state = bound-long state n x (word_of q d) store.long space small in let l : store_words ≤ length state = store.long in omega arith);
           small = store.small;
@@ -323,7 +363,7 @@ module _ (ss : List Symbol) (nodes state : List ℕ) (n x q d : ℕ) (store : St
 
 -- ---- undoing is the newest dropped
 
-module _ (ss : List Symbol) (nodes state : List ℕ) (n : ℕ) (store : Store ss nodes state (suc n)) where
+module _ (ss : List Symbol) (nodes state : List ℕ) (n : ℕ) (store : RawStore ss nodes state (suc n)) where
   last-cell : trail_at state n < cells
   last-cell = (store.entry n (omega arith)).cell
 
@@ -337,8 +377,8 @@ module _ (ss : List Symbol) (nodes state : List ℕ) (n : ℕ) (store : Store ss
         others = λ j l. get_or-set_other state (trail_at state n) j 0 0 (λ e. omega arith);
       }
 
-  pub undo-store : Store ss nodes (set state (trail_at state n) 0) n
-  undo-store =
+  pub undo-raw : RawStore ss nodes (set state (trail_at state n) 0) n
+  undo-raw =
       record {
         long = (let e : length (set state (trail_at state n) 0) ≡ length state = length-set state (trail_at state n) 0 in let l : store_words ≤ length state = store.long in omega arith);
         small = store.small;
@@ -357,15 +397,15 @@ module _ (ss : List Symbol) (nodes state : List ℕ) (n : ℕ) (store : Store ss
 -- ---- stores elsewhere
 
 -- n entries are no more than there are cells
-pub few : (ss : List Symbol) (nodes state : List ℕ) (n : ℕ) → Store ss nodes state n → n ≤ cells
+pub few : (ss : List Symbol) (nodes state : List ℕ) (n : ℕ) → RawStore ss nodes state n → n ≤ cells
 few ss nodes state n store = pigeonhole cells n (trail_at state) (λ i l. (store.entry i l).cell) same-entry
   where
     same-entry : (i j : ℕ) → i < n → j < n → trail_at state i ≡ trail_at state j → i ≡ j
     same-entry i j l h e = let a : i < j → ⊥ = (λ q. store.apart i j q h e) in let b : j < i → ⊥ = (λ q. store.apart j i q l (sym e)) in omega (arith, a, b)
 
 -- a store stays one where the cells and the first entries of the trail stay
-pub store-agrees : (ss : List Symbol) (nodes before after : List ℕ) (n : ℕ) → length after ≡ length before → ((y : ℕ) → y < cells → cell_at after y ≡ cell_at before y) → SameBindings n before after → Store ss nodes before n → Store ss nodes after n
-store-agrees ss nodes before after n e same k store =
+pub raw-agrees : (ss : List Symbol) (nodes before after : List ℕ) (n : ℕ) → length after ≡ length before → ((y : ℕ) → y < cells → cell_at after y ≡ cell_at before y) → SameBindings n before after → RawStore ss nodes before n → RawStore ss nodes after n
+raw-agrees ss nodes before after n e same k store =
     record {
       long = (let l : store_words ≤ length before = store.long in omega (arith, e));
       small = store.small;
@@ -388,18 +428,21 @@ module _ (ss : List Symbol) (nodes before after : List ℕ) (n : ℕ) (store : S
   pub same-agrees : SameBindings n before after
   same-agrees =
       record {
-        entry = λ i l. same.1 (trail + i) (let k : n ≤ cells = few ss nodes before n store in omega arith);
-        cell = λ i l. same.1 (trail_at before i) (let k : trail_at before i < cells = (store.entry i l).cell in omega arith);
+        entry = λ i l. same.1 (trail + i) (let k : n ≤ cells = few ss nodes before n store.raw in omega arith);
+        cell = λ i l. same.1 (trail_at before i) (let k : trail_at before i < cells = (store.raw.entry i l).cell in omega arith);
       }
 
   pub store_same : Store ss nodes after n
-  store_same = store-agrees ss nodes before after n same.0 (λ y l. same.1 y (omega arith)) same-agrees store
+  store_same = record { raw = raw-agrees ss nodes before after n same.0 (λ y l. same.1 y (omega arith)) same-agrees store.raw; acyclic = acyclic-agrees ss nodes before after n same-agrees store.acyclic }
 
   pub bindings-same : bindings ss nodes after n ≡ bindings ss nodes before n
   bindings-same = bindings-agree ss nodes before after n n (omega arith) same-agrees
 
 -- ---- a store without entries
 
-pub no-entries : (ss : List Symbol) (nodes state : List ℕ) → store_words ≤ length state → length nodes ≤ places → ((x : ℕ) → x < cells → cell_at state x ≡ 0) → Store ss nodes state 0
+pub no-entries : (ss : List Symbol) (nodes state : List ℕ) → store_words ≤ length state → length nodes ≤ places → ((x : ℕ) → x < cells → cell_at state x ≡ 0) → RawStore ss nodes state 0
 no-entries ss nodes state l h z =
     record { long = l; small = h; entry = λ i q. absurd (let k : i < 0 = q in omega arith); apart = λ i j a b e. absurd (let k : j < 0 = b in omega arith); only = λ x q k. absurd (k (z x q)) }
+
+pub no-bindings : (ss : List Symbol) (nodes state : List ℕ) → store_words ≤ length state → length nodes ≤ places → ((x : ℕ) → x < cells → cell_at state x ≡ 0) → Store ss nodes state 0
+no-bindings ss nodes state l h z = record { raw = no-entries ss nodes state l h z; acyclic = λ i q. absurd (let k : i < 0 = q in omega arith) }

@@ -118,47 +118,14 @@ most_alternatives = literals * copies
 abbrev pub state_words : ℕ
 state_words = alternatives + most_alternatives * alternative_size
 
--- ---- scratch: marks and queue as cells and trail, a topological order of cells, the work stack, short cuts, the memo
+-- ---- scratch: marks and queue as cells and trail, pending cells, the work stack, short cuts, the memo
 
--- The list of the order, and for each cell its place in the list.
-abbrev pub order : ℕ
-order = store_words
-
-abbrev pub order_places : ℕ
-order_places = order + cells
-
--- Terms of which it is known how far into the list their variables stand, with a slot for each, and how many there are.
-abbrev pub bound_list : ℕ
-bound_list = order_places + cells
-
-abbrev pub bound_count : ℕ
-bound_count = 1024
-
-abbrev pub bound_size : ℕ
-bound_size = 2
-
-abbrev pub bound_of : ℕ → ℕ
-bound_of k = bound_list + k * bound_size
-
-abbrev pub bound_slots : ℕ
-bound_slots = bound_list + bound_count * bound_size
-
--- the length of the list, and the number of those terms
-abbrev pub order_word : ℕ
-order_word = bound_slots + bound_count
-
-abbrev pub bounds_word : ℕ
-bounds_word = order_word + 1
-
--- the words that searches may still look at before the order is made anew, and how many there were
-abbrev pub purse_word : ℕ
-purse_word = bounds_word + 1
-
-abbrev pub purse_size : ℕ
-purse_size = purse_word + 1
+-- The cells that were bound with no search, where their bindings may close a cycle.
+abbrev pub pending : ℕ
+pending = store_words
 
 abbrev pub stack : ℕ
-stack = purse_size + 1
+stack = pending + cells
 
 -- a side of a pair, and a pair
 abbrev pub side_size : ℕ
@@ -171,8 +138,12 @@ pair_size = 2 * side_size
 abbrev pub pair_of : ℕ → ℕ
 pair_of k = stack + k * pair_size
 
+-- A pair of large terms with a name each is opened on a stack lower than this. Any other is opened by way of a bound cell.
+abbrev pub big_pairs : ℕ
+big_pairs = 1024
+
 abbrev pub pairs : ℕ
-pairs = 2 * cells + 1
+pairs = 2 * cells + big_pairs
 
 -- Short cuts through chains of variables, and how many there are. Their slots are the higher halves of the memo's.
 abbrev pub cut_list : ℕ
@@ -222,6 +193,13 @@ class_count = cells + copies
 abbrev pub memo_class : ℕ → ℕ
 memo_class i = classes + i * class_size
 
+-- While a search for a cycle goes on, the words of the classes are those of its path: an open cell, and the place reached in its term.
+abbrev pub path_size : ℕ
+path_size = class_size
+
+abbrev pub path_of : ℕ → ℕ
+path_of j = classes + j * path_size
+
 abbrev pub weights : ℕ
 weights = classes + class_count * class_size
 
@@ -267,6 +245,6 @@ narrow_rows = 304
 abbrev pub narrow_words : ℕ
 narrow_words = rows + narrow_rows * row_words
 
--- Under any sheet there is room behind the order for the brackets of any answer, and that is room for more rows.
+-- Under any sheet there is room behind the pending cells for the brackets of any answer, and that is room for more rows.
 abbrev pub wide_words : ℕ
 wide_words = stack + deepest * open_size

@@ -48,23 +48,34 @@ bindings ss nodes state (suc n) =
     record { variable = variable_of (trail_at state n); term = resolve (bindings ss nodes state n) (value_of ss nodes (cell_at state (trail_at state n))) }
     ∷ bindings ss nodes state n
 
--- One entry of the trail: a bound cell, whose word gives a node. A variable is bound to an earlier one, or to a term in which it does not
--- stand once the bindings before it are put in.
+-- One entry of the trail: a bound cell, whose word gives a node; where that is a variable, it is one of an earlier cell.
 pub record TrailEntry (ss : List Symbol) (nodes state : List ℕ) (i : ℕ) : Type 0 where
   pub cell : trail_at state i < cells
   pub bound : cell_at state (trail_at state i) ≡ 0 → ⊥
   pub node : Node ss nodes (node_of (cell_at state (trail_at state i)))
   pub down : get_or nodes (node_of (cell_at state (trail_at state i))) 0 < first_name → cell_of (copy_of (cell_at state (trail_at state i)))
       (get_or nodes (node_of (cell_at state (trail_at state i))) 0) < trail_at state i
-  pub free : T (occurs (variable_of (trail_at state i)) (resolve (bindings ss nodes state i) (value_of ss nodes (cell_at state (trail_at state i))))) → ⊥
 
--- The store: the first n entries of the trail are distinct, and they are exactly the bound cells.
-pub record Store (ss : List Symbol) (nodes state : List ℕ) (n : ℕ) : Type 0 where
+-- Entry i closes a cycle: its variable stands in its term, once the bindings before it are put in.
+abbrev pub ClosesCycle : List Symbol → List ℕ → List ℕ → ℕ → Type 0
+ClosesCycle ss nodes state i = T (occurs (variable_of (trail_at state i)) (resolve (bindings ss nodes state i) (value_of ss nodes (cell_at state (trail_at state i)))))
+
+-- none of the first n entries does
+abbrev pub Acyclic : List Symbol → List ℕ → List ℕ → ℕ → Type 0
+Acyclic ss nodes state n = (i : ℕ) → i < n → ClosesCycle ss nodes state i → ⊥
+
+-- The first n entries of the trail are distinct, and they are exactly the bound cells.
+pub record RawStore (ss : List Symbol) (nodes state : List ℕ) (n : ℕ) : Type 0 where
   pub long : store_words ≤ length state
   pub small : length nodes ≤ places
   pub entry : (i : ℕ) → i < n → TrailEntry ss nodes state i
   pub apart : (i j : ℕ) → i < j → j < n → trail_at state i ≡ trail_at state j → ⊥
   pub only : (x : ℕ) → x < cells → (cell_at state x ≡ 0 → ⊥) → (i : ℕ) × (i < n) × (trail_at state i ≡ x)
+
+-- The store: the same, and no entry closes a cycle.
+pub record Store (ss : List Symbol) (nodes state : List ℕ) (n : ℕ) : Type 0 where
+  pub raw : RawStore ss nodes state n
+  pub acyclic : Acyclic ss nodes state n
 
 -- The entries and their terms belong to copies 0 to k.
 pub record WithinCopies (k : ℕ) (state : List ℕ) (n : ℕ) : Type 0 where

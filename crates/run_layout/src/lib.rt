@@ -88,38 +88,11 @@ pub const MOST_ALTERNATIVES: usize = LITERALS * COPIES;
 /// The words of the state.
 pub const STATE_WORDS: usize = ALTERNATIVES + MOST_ALTERNATIVES * ALTERNATIVE_SIZE;
 
-/// Where the topological order of cells begins in the scratch words: the list of ordered cells.
-pub const ORDER: usize = STORE_WORDS;
-
-/// Where the places of cells in that list begin, one word a cell.
-pub const ORDER_PLACES: usize = ORDER + CELLS;
-
-/// Where the terms with a bound begin. A term's bound says how far into the list its variables stand.
-pub const BOUND_LIST: usize = ORDER_PLACES + CELLS;
-
-/// The most terms with a bound.
-pub const BOUND_COUNT: usize = 1024;
-
-/// The words of such a term.
-pub const BOUND_SIZE: usize = 2;
-
-/// Where the slots of these terms begin, one word each.
-pub const BOUND_SLOTS: usize = BOUND_LIST + BOUND_COUNT * BOUND_SIZE;
-
-/// The word with the length of the list of ordered cells.
-pub const ORDER_WORD: usize = BOUND_SLOTS + BOUND_COUNT;
-
-/// The word with the number of terms with a bound.
-pub const BOUNDS_WORD: usize = ORDER_WORD + 1;
-
-/// The word with the purse: how many more words the occurs check may look at before the order is made anew.
-pub const PURSE_WORD: usize = BOUNDS_WORD + 1;
-
-/// The word with the size of the purse when it was full.
-pub const PURSE_SIZE: usize = PURSE_WORD + 1;
+/// Where the cells begin whose bindings may close a cycle, in the scratch words.
+pub const PENDING: usize = STORE_WORDS;
 
 /// Where the work stack of unification begins, and the open brackets of an answer that is spelt.
-pub const STACK: usize = PURSE_SIZE + 1;
+pub const STACK: usize = PENDING + CELLS;
 
 /// The words of one side of a pair on the work stack.
 pub const SIDE_SIZE: usize = 3;
@@ -127,8 +100,11 @@ pub const SIDE_SIZE: usize = 3;
 /// The words of a pair on the work stack.
 pub const PAIR_SIZE: usize = 2 * SIDE_SIZE;
 
+/// A pair of large terms with a name each is opened on a stack lower than this.
+pub const BIG_PAIRS: usize = 1024;
+
 /// The most pairs on the work stack.
-pub const PAIRS: usize = 2 * CELLS + 1;
+pub const PAIRS: usize = 2 * CELLS + BIG_PAIRS;
 
 /// Where the short cuts through chains of variables begin.
 pub const CUT_LIST: usize = STACK + PAIRS * PAIR_SIZE;
@@ -168,6 +144,12 @@ pub const CLASS_SIZE: usize = 2;
 
 /// The most classes of equal terms.
 pub const CLASS_COUNT: usize = CELLS + COPIES;
+
+/// Where the path of a search for a cycle begins: it stands in the words of the classes.
+pub const PATH: usize = CLASSES;
+
+/// The words of an open cell on that path.
+pub const PATH_SIZE: usize = CLASS_SIZE;
 
 /// Where the weights of the pairs on the work stack begin, one word for each height.
 pub const WEIGHTS: usize = CLASSES + CLASS_COUNT * CLASS_SIZE;

@@ -2,10 +2,11 @@ pub mod Rules
 pub mod Rowwise
 pub mod Closing
 pub mod Stacked
+pub mod Shapes
+pub mod Safe
 pub mod Settle
 pub mod Turning
-pub mod Bare
+pub mod CycleLaws
 pub mod Solving
 pub mod Whole
 pub mod UnifyWitness
-pub mod Guards

@@ -4,7 +4,6 @@ use native.Mathlib.Omega.{arith}
 use mathlib.Core.Path.{◌≡◌, refl, sym, ap, ap₂, ◌∙◌, subst}
 use mathlib.Core.Bool.{Bool, true, false}
 use mathlib.Core.List.{List}
-use mathlib.Core.Logic.{◌⊎◌}
 use lib.Dec.{ltb}
 use lib.ListN.{length, get_or}
 use borrow.Author.Tests.{ltb-true, ltb-false}
@@ -80,17 +79,17 @@ none-followed us = refl
 -- ---- on from a place
 
 -- a walk from i and j on is one from p and q, where what lies between changes nothing
-walks-on : (ss : List Symbol) (nodes : List ℕ) (p e q f i j : ℕ) → ((b : List Binding) (c d : ℕ) (l r : RTerms) → unify_rows b (followed (terms_at ss nodes p e c) l) (followed (terms_at ss nodes q f d) r) ≡ unify_rows b (followed (terms_at ss nodes i e c) l) (followed (terms_at ss nodes j f d) r))
+walks-on : (ss : List Symbol) (nodes : List ℕ) (p e q f i j : ℕ) → p ≤ i → ((b : List Binding) (c d : ℕ) (l r : RTerms) → unify_rows b (followed (terms_at ss nodes p e c) l) (followed (terms_at ss nodes q f d) r) ≡ unify_rows b (followed (terms_at ss nodes i e c) l) (followed (terms_at ss nodes j f d) r))
     → ((b : List Binding) (c : ℕ) → rows_size b (terms_at ss nodes i e c) ≤ rows_size b (terms_at ss nodes p e c)) → ((b : List Binding) (d : ℕ) → rows_size b (terms_at ss nodes j f d) ≤ rows_size b (terms_at ss nodes q f d))
     → (o : RowsWalked) → Walks ss nodes i e j f o → Walks ss nodes p e q f o
-walks-on ss nodes p e q f i j means less right (Ok u) k = λ b c d l r. means b c d l r ∙ k b c d l r
-walks-on ss nodes p e q f i j means less right (Err Clash) k = λ b c d l r. means b c d l r ∙ k b c d l r
-walks-on ss nodes p e q f i j means less right (Err (Met m n)) k =
+walks-on ss nodes p e q f i j on means less right (Ok u) k = λ b c d l r. means b c d l r ∙ k b c d l r
+walks-on ss nodes p e q f i j on means less right (Err Clash) k = λ b c d l r. means b c d l r ∙ k b c d l r
+walks-on ss nodes p e q f i j on means less right (Err (Met m n)) k =
     record {
       beside = k.beside;
       some = k.some;
-      variable = k.variable;
       means = λ b c d l r. means b c d l r ∙ k.means b c d l r;
+      forward = omega (arith, k.forward, on);
       less = λ b c. omega (arith, k.less b c, less b c);
       less_right = λ b d. omega (arith, k.less_right b d, right b d);
     }
@@ -109,10 +108,10 @@ module _ (nodes : List ℕ) (p q : ℕ) (g : TwoNodes nodes p q) where
         same = λ c d. ap count (row-one-is g.ss nodes p c g.left) ∙ (count-one (term_at g.ss nodes p c) rnil ∙ (sym (count-one (term_at g.ss nodes q d) rnil) ∙ sym (ap count (row-one-is g.ss nodes q d g.right))));
       }
 
-  pub term-met : (get_or nodes p 0 < first_name) ⊎ (get_or nodes q 0 < first_name) → Walks g.ss nodes p (p + get_or nodes (p + 1) 0) q (q + get_or nodes (q + 1) 0) (Err (Met p q))
-  term-met v =
+  pub term-met : Walks g.ss nodes p (p + get_or nodes (p + 1) 0) q (q + get_or nodes (q + 1) 0) (Err (Met p q))
+  term-met =
       let k : loaded_node ≤ get_or nodes (p + 1) 0 = node-size g.ss nodes p g.left in
-      record { beside = one-beside; some = omega arith; variable = v; means = λ b c d l r. refl; less = λ b c. omega arith; less_right = λ b d. omega arith }
+      record { beside = one-beside; some = omega arith; means = λ b c d l r. refl; forward = omega arith; less = λ b c. omega arith; less_right = λ b d. omega arith }
 
   -- the row of one term, with others behind it
   row_is : (c : ℕ) (l : RTerms) → followed (terms_at g.ss nodes p (p + get_or nodes (p + 1) 0) c) l ≡ rcons (term_at g.ss nodes p c) l
@@ -167,7 +166,7 @@ module _ (nodes : List ℕ) (p q : ℕ) (g : TwoNodes nodes p q) where
 
       pub term-open : (o : RowsWalked) → WalksRows nodes (p + loaded_node) (p + get_or nodes (p + 1) 0) (q + loaded_node) o → Walks g.ss nodes p (p + get_or nodes (p + 1) 0) q (q + get_or nodes (q + 1) 0) o
       unfolding term-list
-      term-open o k = walks-on _ _ _ _ _ _ _ _ opened bigger bigger-right o (k term-list)
+      term-open o k = walks-on _ _ _ _ _ _ _ _ (let o1 : p ≤ p + loaded_node = omega arith in o1) opened bigger bigger-right o (k term-list)
 
 -- ---- two rows
 
@@ -248,13 +247,13 @@ module _ (nodes : List ℕ) (p e q : ℕ) (g : Walkable nodes p e q) where
                 omega arith);
           };
           some = omega arith;
-          variable = m.variable;
           means = λ b c d ls rs.
               ap₂ (unify_rows b) (left_is c ls) (right_is d rs)
               ∙ (m.means b c d (followed (terms_at g.ss nodes (p + get_or nodes (p + 1) 0) e c) ls) (followed (terms_at g.ss nodes (q + get_or nodes (q + 1) 0) g.f d) rs)
               ∙ ap₂ (unify_rows b)
               (sym (ap (λ (ts : RTerms). followed ts ls) (row-joined g.ss nodes i (p + get_or nodes (p + 1) 0) e c m.beside.left rest) ∙ followed-assoc (terms_at g.ss nodes i (p + get_or nodes (p + 1) 0) c) (terms_at g.ss nodes (p + get_or nodes (p + 1) 0) e c) ls))
               (sym (ap (λ (ts : RTerms). followed ts rs) (row-joined g.ss nodes j (q + get_or nodes (q + 1) 0) g.f d m.beside.right rest-right) ∙ followed-assoc (terms_at g.ss nodes j (q + get_or nodes (q + 1) 0) d) (terms_at g.ss nodes (q + get_or nodes (q + 1) 0) g.f d) rs)));
+          forward = m.forward;
           less = λ b c. (let x : rows_size b (terms_at g.ss nodes i (p + get_or nodes (p + 1) 0) c) ≤ rows_size b (terms_at g.ss nodes p (p + get_or nodes (p + 1) 0) c) = m.less b c in
               let u : rows_size b (terms_at g.ss nodes i e c) ≡ rows_size b (terms_at g.ss nodes i (p + get_or nodes (p + 1) 0) c) + rows_size b (terms_at g.ss nodes (p + get_or nodes (p + 1) 0) e c) = ap (rows_size b) (row-joined g.ss nodes i (p + get_or nodes (p + 1) 0) e c m.beside.left rest) ∙ size-followed b (terms_at g.ss nodes i (p + get_or nodes (p + 1) 0) c) (terms_at g.ss nodes (p + get_or nodes (p + 1) 0) e c) in
               let v : rows_size b (terms_at g.ss nodes p e c) ≡ rows_size b (terms_at g.ss nodes p (p + get_or nodes (p + 1) 0) c) + rows_size b (terms_at g.ss nodes (p + get_or nodes (p + 1) 0) e c) = ap (rows_size b) (row-joined g.ss nodes p (p + get_or nodes (p + 1) 0) e c one rest) ∙ size-followed b (terms_at g.ss nodes p (p + get_or nodes (p + 1) 0) c) (terms_at g.ss nodes (p + get_or nodes (p + 1) 0) e c) in
@@ -284,7 +283,7 @@ module _ (nodes : List ℕ) (p e q : ℕ) (g : Walkable nodes p e q) where
 
       pub list-next : (o : RowsWalked) → WalksRows nodes (p + get_or nodes (p + 1) 0) e (q + get_or nodes (q + 1) 0) o → Walks g.ss nodes p e q g.f o
       unfolding list-rest
-      list-next o m = walks-on _ _ _ _ _ _ _ _ passed shorter shorter-right o (m list-rest)
+      list-next o m = walks-on _ _ _ _ _ _ _ _ (let o1 : p ≤ p + get_or nodes (p + 1) 0 = omega arith in o1) passed shorter shorter-right o (m list-rest)
 
 -- the same with the sizes as they are read
 pub list_on : (nodes : List ℕ) (p e q : ℕ) (g : Walkable nodes p e q) (l : p < e) (first : RowsWalked) → first ≡ Ok tt → WalksTerms nodes p q first

@@ -1,5 +1,5 @@
 -- Laws of a crossing whose two terms are dereferenced: one for each way out. Assumes nothing.
-use Prim.Native.Nat.{ℕ, suc, ◌+◌, ◌-◌, ◌*◌, ◌≤◌, ◌<◌, ◌^◌}
+use Prim.Native.Nat.{ℕ, suc, ◌+◌, ◌-◌, ◌*◌, ◌≤◌, ◌<◌}
 use native.Mathlib.Omega.{arith}
 use mathlib.Core.Path.{◌≡◌, refl, sym, ap, ap₂, ◌∙◌, subst, subst⁻¹}
 use mathlib.Core.Bool.{Bool, true, false}
@@ -13,24 +13,23 @@ use Rattle.syntax.specs.Words.{first_name}
 use Rattle.machine.specs.Substitution.{Variable, is_later, RTerm, RTerms, var, app, rcons, occurs, Binding, resolve}
 use Rattle.machine.proofs.Tests.{variable-eq}
 use Rattle.machine_theorems.proofs.Terms.{resolve_all, resolve-app}
-use Rattle.run_layout.specs.Regions.{copies, copy_cells, places, pairs, pair_of, rows, loaded_node, pair_size}
+use Rattle.run_layout.specs.Regions.{copy_cells, big_pairs, pairs, pair_of, rows, loaded_node, pair_size}
 use Rattle.run_layout.specs.Nodes.{Symbol, name_of_symbol, term_at, terms_at, followed, count}
-use Rattle.run_layout.specs.State.{cell_of, variable_of, word_of, value_of, bindings, Store}
-use Rattle.run_layout.proofs.Nodes.{node-inside, variable-at, compound-at, same_count, other-symbol}
+use Rattle.run_layout.specs.State.{cell_of, variable_of, word_of, value_of, bindings, RawStore}
+use Rattle.run_layout.proofs.Nodes.{variable-at, compound-at, same_count, other-symbol}
 use Rattle.run_layout.proofs.State.{variable-cell, cell-eq, cell-small, resolve-unbound}
 use Rattle.bindings.specs.Memos.{KnownEqual}
 use Rattle.bindings.specs.Scratch.{left_at, right_at, pair_words, SameMarks}
 use Rattle.run_layout.specs.declared.terms.At.{At}
 use Rattle.bindings.specs.declared.stack.Side.{Side}
 use Rattle.bindings.proofs.Remembering.{value-word, memo-kept, memo-found}
-use Rattle.unify.specs.Rows.{unify_rows, nodes_of, rows_size}
+use Rattle.unify.specs.Rows.{unify_rows, nodes_of}
 use Rattle.unify.specs.Stacks.{inner_row, end_of, whole_of, row_of, rows_of, OpenedByCell, Stack, no_term, WholesEqual}
 use Rattle.unify.specs.Turns.{Dereferenced, Crossed, Openable, PairTurned}
 use Rattle.std.proofs.Common.{Ok, Err}
 use Rattle.unify.specs.Turns.{Turn}
 use Rattle.unify.specs.declared.solve.TurnStop.TheVariants.{Clash, Bind}
 use Rattle.unify.proofs.Rules.{rows_same, rows-open, rows-clash, rows-occurs-left, rows-occurs-right, rows-bind-left, rows-bind-right, left-is-bound, right-is-bound, left-bound, right-bound, later-cell, earlier-cell, count-resolve}
-use Rattle.unify.proofs.Rowwise.{size-cons, size-app, size-followed}
 use Rattle.unify.proofs.Closing.{equal-named, closes-settled, closes-bound, closes-pushed}
 use Rattle.unify.proofs.Stacked.{pair-others, pair-marks, pair_left, pair-right, pair-left-others, pair-right-others, rows_agree, rows-top, half-pushed, height}
 
@@ -50,7 +49,7 @@ same-variable v w e = cc
 
 -- ---- what a dereferenced term is
 
-module _ {ss : List Symbol} {nodes state : List ℕ} {n top : ℕ} {p : At} (store : Store ss nodes state n) (r : Dereferenced ss nodes state top p) where
+module _ {ss : List Symbol} {nodes state : List ℕ} {n top : ℕ} {p : At} (store : RawStore ss nodes state n) (r : Dereferenced ss nodes state top p) where
   is_open : get_or nodes p.node 0 < first_name → resolve (bindings ss nodes state n) (term_at ss nodes p.node p.copy) ≡ var (variable_of (cell_of p.copy (get_or nodes p.node 0)))
   is_open l =
       ap (resolve (bindings ss nodes state n)) (variable-at ss nodes p.node r.node p.copy l ∙ ap var (sym (variable-cell p.copy (get_or nodes p.node 0) l)))
@@ -98,9 +97,6 @@ module _ {nodes scratch : List ℕ} {h : ℕ} {p q : At} (g : Crossed nodes scra
   abbrev pub args-at : At → RTerms
   args-at a = terms_at g.work.ss nodes (a.node + loaded_node) (a.node + get_or nodes (a.node + 1) 0) a.copy
 
-  pub settle-inside : (p.node + loaded_node ≤ length nodes) × ((q.node + loaded_node ≤ length nodes) × (length nodes ≤ places))
-  settle-inside = (node-inside g.work.ss nodes p.node g.left.node, (node-inside g.work.ss nodes q.node g.right.node, g.work.store.small))
-
   -- a turn that is this one
   pub settle_as : {k : Turn} (r : Turn) → r ≡ k → PairTurned g scratch k → PairTurned g scratch r
   settle_as r e x = subst⁻¹ (λ (k : Turn). PairTurned g scratch k) e x
@@ -139,14 +135,14 @@ module _ {nodes scratch : List ℕ} {h : ℕ} {p q : At} (g : Crossed nodes scra
       → PairTurned g scratch (Err (Bind h x q))
   bind_left l later down stands =
       bound-to g.left g.right l down stands
-      (λ z. (rows-bind-left b t u ls rs (variable_of x) (is_open g.work.store g.left l) (left-is-bound (variable_of x) (resolve b u) z later) z, left-bound b t u (variable_of x) (is_open g.work.store g.left l) z))
+      (λ z. (rows-bind-left b t u ls rs (variable_of x) (is_open g.work.store.raw g.left l) (left-is-bound (variable_of x) (resolve b u) z later) z, left-bound b t u (variable_of x) (is_open g.work.store.raw g.left l) z))
 
   bind-right : get_or nodes q.node 0 < first_name → ((w : Variable) → resolve b t ≡ var w → is_later w (variable_of y) ≡ false) → (get_or nodes p.node 0 < first_name → x < y)
       → (T (occurs (variable_of y) (resolve b t)) → unify_rows b (rcons t ls) (rcons u rs) ≡ none)
       → PairTurned g scratch (Err (Bind h y p))
   bind-right l later down stands =
       bound-to g.right g.left l down stands
-      (λ z. (rows-bind-right b t u ls rs (variable_of y) (is_open g.work.store g.right l) (right-is-bound (variable_of y) (resolve b t) z later) z, right-bound b t u (variable_of y) (is_open g.work.store g.right l) z))
+      (λ z. (rows-bind-right b t u ls rs (variable_of y) (is_open g.work.store.raw g.right l) (right-is-bound (variable_of y) (resolve b t) z later) z, right-bound b t u (variable_of y) (is_open g.work.store.raw g.right l) z))
 
   -- two terms that are equal already
   pub settle-equal : resolve b t ≡ resolve b u → PairTurned g scratch (Ok h)
@@ -155,7 +151,6 @@ module _ {nodes scratch : List ℕ} {h : ℕ} {p q : At} (g : Crossed nodes scra
     record {
       stack = g.work.stack;
       means = rows_same b t u ls rs e;
-      less = (let s : rows_size b (rcons t ls) ≡ nodes_of (resolve b t) + rows_size b ls = size-cons b t ls in let o : 1 ≤ nodes_of (resolve b t) = nodes-some (resolve b t) in omega arith);
       memo = g.work.memo;
       closes = closes-settled g.work.ss nodes b (left_at scratch) (right_at scratch) h t u e g.closes;
     },
@@ -165,10 +160,10 @@ module _ {nodes scratch : List ℕ} {h : ℕ} {p q : At} (g : Crossed nodes scra
 
   module _ (lp : get_or nodes p.node 0 < first_name) (lq : get_or nodes q.node 0 < first_name) where
     left_is : resolve b t ≡ var (variable_of x)
-    left_is = is_open g.work.store g.left lp
+    left_is = is_open g.work.store.raw g.left lp
 
     right_is : resolve b u ≡ var (variable_of y)
-    right_is = is_open g.work.store g.right lq
+    right_is = is_open g.work.store.raw g.right lq
 
     pub settle-same : x ≡ y → PairTurned g scratch (Ok h)
     settle-same e = settle-equal (left_is ∙ (ap (λ (k : ℕ). var (variable_of k)) e ∙ sym right_is))
@@ -187,19 +182,19 @@ module _ {nodes scratch : List ℕ} {h : ℕ} {p q : At} (g : Crossed nodes scra
 
   pub settle-left : get_or nodes p.node 0 < first_name → first_name ≤ get_or nodes q.node 0 → PairTurned g scratch (Err (Bind h x q))
   settle-left lp hq =
-      let name : resolve b u ≡ app (name-at q) (resolve_all b (args-at q)) = is_name g.work.store g.right hq in
+      let name : resolve b u ≡ app (name-at q) (resolve_all b (args-at q)) = is_name g.work.store.raw g.right hq in
       bind_left lp
       (λ w k. absurd (never-variable (name-at q) (resolve_all b (args-at q)) w (sym name ∙ k)))
       (λ k. absurd (let z : get_or nodes q.node 0 < first_name = k in omega arith))
-      (λ k. rows-occurs-left b t u ls rs (variable_of x) (name-at q) (resolve_all b (args-at q)) (is_open g.work.store g.left lp) name (subst (λ (v : RTerm). T (occurs (variable_of x) v)) name k))
+      (λ k. rows-occurs-left b t u ls rs (variable_of x) (name-at q) (resolve_all b (args-at q)) (is_open g.work.store.raw g.left lp) name (subst (λ (v : RTerm). T (occurs (variable_of x) v)) name k))
 
   pub settle-right : first_name ≤ get_or nodes p.node 0 → get_or nodes q.node 0 < first_name → PairTurned g scratch (Err (Bind h y p))
   settle-right hp lq =
-      let name : resolve b t ≡ app (name-at p) (resolve_all b (args-at p)) = is_name g.work.store g.left hp in
+      let name : resolve b t ≡ app (name-at p) (resolve_all b (args-at p)) = is_name g.work.store.raw g.left hp in
       bind-right lq
       (λ w k. absurd (never-variable (name-at p) (resolve_all b (args-at p)) w (sym name ∙ k)))
       (λ k. absurd (let z : get_or nodes p.node 0 < first_name = k in omega arith))
-      (λ k. rows-occurs-right b t u ls rs (variable_of y) (name-at p) (resolve_all b (args-at p)) name (is_open g.work.store g.right lq) (subst (λ (v : RTerm). T (occurs (variable_of y) v)) name k))
+      (λ k. rows-occurs-right b t u ls rs (variable_of y) (name-at p) (resolve_all b (args-at p)) name (is_open g.work.store.raw g.right lq) (subst (λ (v : RTerm). T (occurs (variable_of y) v)) name k))
 
   -- ---- two names
 
@@ -214,8 +209,8 @@ module _ {nodes scratch : List ℕ} {h : ℕ} {p q : At} (g : Crossed nodes scra
     settle-clash z = (
       marks-refl scratch,
       rows-clash b t u ls rs (name-at p) (name-at q) (resolve_all b al) (resolve_all b ar)
-          (is_name g.work.store g.left hp)
-          (is_name g.work.store g.right hq)
+          (is_name g.work.store.raw g.left hp)
+          (is_name g.work.store.raw g.right hq)
           (λ n k. other-symbol g.work.ss nodes p.node q.node p.copy q.copy g.left.node g.right.node hp hq z n (sym (count-resolve b al) ∙ (k ∙ count-resolve b ar))),
     )
 
@@ -246,10 +241,10 @@ module _ {nodes scratch : List ℕ} {h : ℕ} {p q : At} (g : Crossed nodes scra
               ap (λ (s : Side). count (terms_at g.work.ss nodes s.at (end_of nodes s) i)) (a k (under k o z))
               ∙ (g.work.stack.same k (under k o z) i j ∙ sym (ap (λ (s : Side). count (terms_at g.work.ss nodes s.at (end_of nodes s) j)) (a1 k (under k o z))))
 
-          via-at : (k : ℕ) → 1 ≤ k → k < suc h → (z : Bool) → eqb k h ≡ z → OpenedByCell b (pick z k) (whole_of g.work.ss nodes (l k)) (whole_of g.work.ss nodes (r k))
+          via-at : (k : ℕ) → big_pairs ≤ k → k < suc h → (z : Bool) → eqb k h ≡ z → OpenedByCell b (pick z k) (whole_of g.work.ss nodes (l k)) (whole_of g.work.ss nodes (r k))
           via-at k o i true z =
               subst⁻¹ (λ (s : Side). OpenedByCell b g.via (whole_of g.work.ss nodes s) (whole_of g.work.ss nodes (r k))) (ap l (eqb-true k h z) ∙ e)
-              (subst⁻¹ (λ (s : Side). OpenedByCell b g.via t (whole_of g.work.ss nodes s)) (ap r (eqb-true k h z) ∙ e1) (g.via_is w hp))
+              (subst⁻¹ (λ (s : Side). OpenedByCell b g.via t (whole_of g.work.ss nodes s)) (ap r (eqb-true k h z) ∙ e1) (g.via_is (let z1 : k ≡ h = eqb-true k h z in omega arith) w hp))
           via-at k o i false z =
               subst⁻¹ (λ (s : Side). OpenedByCell b (g.work.stack.via k) (whole_of g.work.ss nodes s) (whole_of g.work.ss nodes (r k))) (a k (under k i z))
               (subst⁻¹ (λ (s : Side). OpenedByCell b (g.work.stack.via k) (whole_of g.work.ss nodes (left_at scratch k)) (whole_of g.work.ss nodes s)) (a1 k (under k i z)) (g.work.stack.vias k o (under k i z)))
@@ -314,10 +309,6 @@ module _ {nodes scratch : List ℕ} {h : ℕ} {p q : At} (g : Crossed nodes scra
             record {
               stack = subst (Stack g.work.ss nodes b g.work.top (left_at laid) (right_at laid)) more (pushed (left_at laid) (right_at laid) l-below l_top r-below r_top);
               means = opened ∙ sym (ap₂ (unify_rows b) left-rows right-rows);
-              less = (let s : rows_size b (rcons t ls) ≡ nodes_of (resolve b t) + rows_size b ls = size-cons b t ls in
-                  let m : nodes_of (resolve b t) ≡ suc (rows_size b al) = ap (λ (v : RTerm). nodes_of (resolve b v)) (compound-at g.work.ss nodes p.node g.left.node p.copy hp) ∙ size-app b (name-at p) al in
-                  let o : rows_size b (rows_of g.work.ss nodes (left_at laid) (h + 1)) ≡ rows_size b al + rows_size b ls = ap (rows_size b) left-rows ∙ size-followed b al ls in
-                  omega arith);
               memo = memo-kept g.work.ss nodes b scratch g.work.memo laid (λ j o. pair-others scratch h (inner_row p) (inner_row q) settle-room j (inr (let z : suc h ≤ pairs = settle-height in omega arith)));
               closes = subst (λ (i : ℕ). WholesEqual g.work.ss nodes b (left_at laid) (right_at laid) i no_term no_term) more
                   (closes-pushed g.work.ss nodes b (left_at scratch) (right_at scratch) (left_at laid) (right_at laid) h t u l-below r-below
@@ -379,13 +370,6 @@ module _ {scratch : List ℕ} {h : ℕ} {p q : At} (g : Openable scratch h p q) 
   other_name : first_name ≤ get_or g.nodes q.node 0
   other_name = subst (λ (k : ℕ). first_name ≤ k) g.same g.name
 
-  pub open-small : ((p.node + loaded_node ≤ places) × (q.node + loaded_node ≤ places)) × (((p.copy < copies) × (q.copy < copies)) × (rows ≤ length scratch))
-  open-small =
-      let a : p.node + loaded_node ≤ length g.nodes = (settle-inside g.crossed).0 in
-      let b1 : q.node + loaded_node ≤ length g.nodes = (settle-inside g.crossed).1.0 in
-      let s : length g.nodes ≤ places = (settle-inside g.crossed).1.1 in
-      ((omega arith, omega arith), ((g.crossed.left.copy, g.crossed.right.copy), g.crossed.work.roomy))
-
   words-equal : resolve bs (value_of g.crossed.work.ss g.nodes (word_of p.node p.copy)) ≡ resolve bs (value_of g.crossed.work.ss g.nodes (word_of q.node q.copy))
       → PairTurned g.crossed scratch (Ok h)
   words-equal e =
@@ -401,17 +385,9 @@ module _ {scratch : List ℕ} {h : ℕ} {p q : At} (g : Openable scratch h p q) 
   pub open-known : {x y : ℕ} → x ≡ word_of p.node p.copy → y ≡ word_of q.node q.copy → KnownEqual scratch x y → PairTurned g.crossed scratch (Ok h)
   open-known {y = y} a b f = words-equal (memo-found g.crossed.work.ss g.nodes bs scratch g.crossed.work.memo (word_of p.node p.copy) (word_of q.node q.copy) (subst (KnownEqual scratch (word_of p.node p.copy)) b (subst (λ (k : ℕ). KnownEqual scratch k y) a f)))
 
-  pub open-room : (pair_of h + pair_size ≤ length scratch) × (((p.node < 2 ^ 32) × ((p.node + loaded_node < 2 ^ 32) × (p.copy < 2 ^ 32))) × ((q.node < 2 ^ 32) × ((q.node + loaded_node < 2 ^ 32) × (q.copy < 2 ^ 32))))
-  open-room =
-      let room : pair_of h + pair_size ≤ length scratch = settle-room g.crossed g.name other_name g.same in
-      let a : p.node + loaded_node ≤ places = open-small.0.0 in
-      let b1 : q.node + loaded_node ≤ places = open-small.0.1 in
-      let cl : p.copy < copies = g.crossed.left.copy in
-      let dl : q.copy < copies = g.crossed.right.copy in
-      (room, ((omega arith, (omega arith, omega arith)), (omega arith, (omega arith, omega arith))))
-
-  pub open-high : h ≤ pairs
-  open-high = height g.crossed.work.ss g.nodes bs g.crossed.work.top (left_at scratch) (right_at scratch) h g.crossed.work.stack
+  -- there is room for the pair
+  pub open-fits : suc h ≤ pairs
+  open-fits = settle-height g.crossed g.name other_name g.same
 
   pub open_pushed : (after : List ℕ) → after ≡ pair_words scratch h (inner_row p) (inner_row q) → PairTurned g.crossed after (Ok (h + 1))
   open_pushed = settle-open g.crossed g.name other_name g.same

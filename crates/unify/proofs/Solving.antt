@@ -1,228 +1,499 @@
--- Laws of the outer loops. Assumes nothing.
-use Prim.Native.Nat.{ℕ, suc, ◌+◌, ◌*◌, ◌≤◌, ◌<◌, ◌^◌}
+-- Laws of the outer loop: what holds whether bindings close a cycle or not, what while none does, and that there is no unifier if one does. Assumes nothing.
+use Prim.Native.Nat.{ℕ, suc, ◌+◌, ◌-◌, ◌*◌, ◌≤◌, ◌<◌, ◌^◌}
 use native.Mathlib.Omega.{arith}
 use mathlib.Core.Path.{◌≡◌, refl, sym, ap, ap₂, ◌∙◌, subst, subst⁻¹}
 use mathlib.Core.Bool.{Bool, true, false}
-use mathlib.Core.List.{List, [], ◌∷◌}
-use lib.Dec.{T}
-use lib.ListN.{length}
-use Rattle.machine.specs.Substitution.{rnil, occurs, Binding, resolve}
-use Rattle.run_layout.specs.Regions.{copies, places, cells, trail, store_words, pairs, rows, loaded_node}
-use Rattle.run_layout.specs.Nodes.{Symbol, term_at}
-use Rattle.run_layout.specs.State.{variable_of, word_of, bindings, Store, WithinCopies, BindingsKept, bound_words}
-use Rattle.run_layout.proofs.Nodes.{node-inside}
-use Rattle.run_layout.proofs.State.{bind-store, bind-keeps, bind-means, bind-within, keeps-refl, keeps-trans, room}
-use Rattle.bindings.specs.Queues.{Clean, Closed, Closing}
-use Rattle.run_layout.specs.declared.terms.At.{At}
-use Rattle.bindings.specs.Memos.{Memo}
-use Rattle.bindings.specs.Scratch.{left_at, right_at, SameMarks}
-use Rattle.bindings.proofs.Apart.{closed-bound}
-use Rattle.bindings.proofs.Remembering.{memo-bound}
-use Rattle.bindings.specs.Orders.{Ordered}
-use Rattle.bindings.proofs.Lists.{ordered-kept}
-use Rattle.unify.specs.Checks.{Guardable, Guarded}
-use Rattle.unify.specs.Rows.{unify_rows, rows_size}
-use Rattle.unify.specs.Stacks.{rows_of, Stack, no_term, WholesEqual}
-use Rattle.unify.specs.Turns.{Work, over, RowsLeft, BindingDue, TurnGives, Turnable, ReadyToUnify, Advanced, Solvable, Solved, answered}
+use mathlib.Core.List.{List, ◌∷◌}
+use mathlib.Core.Logic.{◌⊎◌, inl, inr}
+use mathlib.Core.Option.{Option, none, some}
+use lib.Dec.{T, ltb, eqb}
+use lib.ListN.{length, get_or, set, length-set}
+use lib.Seq.{get_or-set_same, get_or-set_other}
+use borrow.Author.Tests.{ltb-true, ltb-false, eqb-true, eqb-false}
 use Rattle.std.proofs.Common.{Ok, Err}
-use Rattle.unify.specs.Turns.{Turn, TurnsTaken}
+use Rattle.std.proofs.Math.Nat.{suc-mul}
+use Rattle.machine.specs.Substitution.{rnil, occurs, Binding, resolve}
+use Rattle.run_layout.specs.Regions.{copies, places, cells, trail, store_words, pending, pairs, cuts_word, memo, rows, loaded_node}
+use Rattle.run_layout.specs.Nodes.{Symbol, term_at}
+use Rattle.run_layout.specs.State.{variable_of, word_of, cell_at, trail_at, bindings, ClosesCycle, Acyclic, RawStore, WithinCopies, BindingsKept, bound_words}
+use Rattle.run_layout.proofs.Nodes.{node-inside, node_end}
+use Rattle.run_layout.proofs.State.{bind-raw, bind-keeps, bind-means, bind-within, bind-closing, bind-closed, bind-earlier, bind-acyclic, word_some, bound-entry, bound-cell, bound-cells, keeps-refl, keeps-trans, within-agrees, agrees, acyclic-agrees, room, few}
+use Rattle.run_layout.specs.declared.terms.At.{At}
+use Rattle.bindings.specs.Cells.{StoredTerm, Stored, Undone}
+use Rattle.bindings.specs.Plain.{Clean, Closed, Closing, Plain}
+use Rattle.bindings.specs.Memos.{Memo, classes_made}
+use Rattle.bindings.specs.Cuts.{cuts_made}
+use Rattle.bindings.specs.Scratch.{left_at, right_at, SameMarks}
+use Rattle.bindings.proofs.Apart.{closed-bound, plain-free}
+use Rattle.bindings.proofs.Remembering.{memo-none, memo-kept, memo-bound}
+use Rattle.unify.specs.Rows.{unify_rows}
+use Rattle.unify.specs.Stacks.{end_of, rows_of, StackSide, Stack, no_term, WholesEqual}
+use Rattle.unify.specs.Turns.{over, Turn, BindingDue, TurnGives, Turnable, Solvable, Solved, answered}
+use Rattle.unify.specs.Shapes.{SideRows, StackRows, most_left, mass, SafeTurnable, SafeBinding, TurnFalls}
+use Rattle.unify.specs.Cycles.{Shallow, pending_at, Testable, Tested}
 use Rattle.unify.specs.declared.solve.TurnStop.{TurnStop}
 use Rattle.unify.specs.declared.solve.TurnStop.TheVariants.{Clash, Bind}
 use Rattle.unify.proofs.Rules.{rows-done}
 use Rattle.unify.proofs.Closing.{closes-agree}
-use Rattle.unify.proofs.Stacked.{left-kept, right_kept, rows_agree, stack-agrees, stack-bound, height}
-use Rattle.unify.proofs.Bare.{size-bare}
+use Rattle.unify.proofs.CycleLaws.{shallow-free}
+use Rattle.unify.proofs.Stacked.{left-kept, right_kept, rows_agree, stack-agrees, stack-bound}
+use Rattle.unify.proofs.Shapes.{power-some, mass-agrees, mass-bounded, heaviest, rows-agreed}
 
--- ---- turns
+-- ---- what holds
 
-pub record Advancing {nodes state before : List ℕ} {n h : ℕ} (w : Work nodes state before n h) (after : List ℕ) (k : ℕ) : Type 0 where
-  pub marks : SameMarks before after
-  pub stack : Stack w.ss nodes (bindings w.ss nodes state n) w.top (left_at after) (right_at after) k
-  pub means : unify_rows (bindings w.ss nodes state n) (rows_of w.ss nodes (left_at before) h) (rows_of w.ss nodes (right_at before) h) ≡ unify_rows (bindings w.ss nodes state n) (rows_of w.ss nodes (left_at after) k) (rows_of w.ss nodes (right_at after) k)
-  pub memo : Memo w.ss nodes (bindings w.ss nodes state n) after
-  pub closes : WholesEqual w.ss nodes (bindings w.ss nodes state n) (left_at after) (right_at after) k no_term no_term
-
--- what is left to be done, whatever the symbols
-abbrev pub left_over : List ℕ → List ℕ → List ℕ → ℕ → ℕ → ℕ
-left_over nodes state scratch n k = 2 * rows_size (bindings [] nodes state n) (rows_of [] nodes (left_at scratch) k) + k
-
-pub advance-begin : {nodes state scratch : List ℕ} {n h : ℕ} (g : ReadyToUnify nodes state scratch n h) → Advancing g.work scratch h
-advance-begin g = record { marks = record { long = refl; words = λ j l. refl }; stack = g.work.stack; means = refl; memo = g.work.memo; closes = g.closes }
-
-no_rows : (ss : List Symbol) (nodes after : List ℕ) → (rows_of ss nodes (left_at after) 0 ≡ rnil) × (rows_of ss nodes (right_at after) 0 ≡ rnil)
-unfolding rows_of
-no_rows ss nodes after = (refl, refl)
-
-module _ {nodes state before after : List ℕ} {n h k : ℕ} {g : Work nodes state before n h} (a : Advancing g after k) where
-  abbrev pub advance-work : Work nodes state after n k
-  advance-work = record { ss = g.ss; top = g.top; store = g.store; within = g.within; roomy = (let e : length after ≡ length before = a.marks.long in let o : rows ≤ length before = g.roomy in omega arith); stack = a.stack; memo = a.memo }
-
-  pub advance-turn : 0 < k → Turnable nodes state after k
-  advance-turn l = record { n = n; work = advance-work; some = omega arith; closes = a.closes }
-
-  marks-on : (later : List ℕ) → SameMarks after later → SameMarks before later
-  marks-on later x = record { long = x.long ∙ a.marks.long; words = λ j l. x.words j l ∙ a.marks.words j l }
-
-  module _ (l : 0 < k) (later : List ℕ) (t : Turn) (c : (v : Turnable nodes state after k) → TurnGives v.work later t) where
-    came : TurnGives advance-work later t
-    unfolding advance-turn
-    came = c (advance-turn l)
-
-    gone : (j : ℕ) → t ≡ Ok j → SameMarks after later × RowsLeft (over g) (rows_of g.ss nodes (left_at after) k) (rows_of g.ss nodes (right_at after) k) (2 * rows_size (bindings g.ss nodes state n) (rows_of g.ss nodes (left_at after) k) + k) later j
-    gone j e = subst (λ (x : Turn). TurnGives advance-work later x) e came
-
-    pub advance-next : (j : ℕ) → t ≡ Ok j → Advancing g later j
-    advance-next j e = record { marks = marks-on later (gone j e).0; stack = (gone j e).1.stack; means = a.means ∙ (gone j e).1.means; memo = (gone j e).1.memo; closes = (gone j e).1.closes }
-
-    pub advance-less : (j : ℕ) → t ≡ Ok j → left_over nodes state later n j < left_over nodes state after n k
-    advance-less j e =
-        let x : 2 * rows_size (bindings g.ss nodes state n) (rows_of g.ss nodes (left_at later) j) + j < 2 * rows_size (bindings g.ss nodes state n) (rows_of g.ss nodes (left_at after) k) + k = (gone j e).1.less in
-        let y : rows_size (bindings [] nodes state n) (rows_of [] nodes (left_at later) j) ≡ rows_size (bindings g.ss nodes state n) (rows_of g.ss nodes (left_at later) j) = size-bare g.ss nodes state n (left_at later) j in
-        let z : rows_size (bindings [] nodes state n) (rows_of [] nodes (left_at after) k) ≡ rows_size (bindings g.ss nodes state n) (rows_of g.ss nodes (left_at after) k) = size-bare g.ss nodes state n (left_at after) k in
-        omega arith
-
-    binds-of : (i x : ℕ) (p : At) → BindingDue (over advance-work) (rows_of advance-work.ss nodes (left_at after) k) (rows_of advance-work.ss nodes (right_at after) k) later i x p → BindingDue (over g) (rows_of g.ss nodes (left_at before) h) (rows_of g.ss nodes (right_at before) h) later i x p
-    binds-of i x p s = record { stack = s.stack; cell = s.cell; unbound = s.unbound; below = s.below; node = s.node; copy = s.copy; copy_below = s.copy_below; down = s.down; stands = λ z. a.means ∙ s.stands z; free = λ z. a.means ∙ s.free z; memo = s.memo; closes = s.closes }
-
-    pub advance-stop : (y : TurnStop) → t ≡ Err y → Advanced g later (Err y)
-    advance-stop y e = go y (subst (λ (x : Turn). TurnGives advance-work later x) e came)
-      where
-        go : (x : TurnStop) → TurnGives advance-work later (Err x) → Advanced g later (Err x)
-        go Clash s = (marks-on later s.0, a.means ∙ s.1)
-        go (Bind i x p) s = (marks-on later s.0, binds-of i x p s.1)
-
-  pub advance-end : k ≤ 0 → Advanced g after (Ok tt)
-  advance-end l =
-      let e : k ≡ 0 = omega arith in
-      (a.marks, a.means ∙ (ap (λ (i : ℕ). unify_rows (bindings g.ss nodes state n) (rows_of g.ss nodes (left_at after) i) (rows_of g.ss nodes (right_at after) i)) e ∙ (ap₂ (unify_rows (bindings g.ss nodes state n)) (no_rows g.ss nodes after).0 (no_rows g.ss nodes after).1 ∙ rows-done (bindings g.ss nodes state n))))
-
--- ---- bindings
-
-pub record Solving {nodes before scratch : List ℕ} {n : ℕ} (g : Solvable nodes before scratch n) (after later : List ℕ) (m h : ℕ) : Type 0 where
+-- whether bindings close a cycle or not: each entry closes none, or its cell is pending
+pub record SafeSolving {nodes before scratch : List ℕ} {n : ℕ} (g : Solvable nodes before scratch n) (after later : List ℕ) (m h count : ℕ) : Type 0 where
   pub grows : n ≤ m
-  pub store : Store g.work.ss nodes after m
+  pub store : RawStore g.work.ss nodes after m
   pub within : WithinCopies g.work.top after m
   pub keeps : BindingsKept n before after
   pub clean : Clean later
   pub long : length later ≡ length scratch
+  pub rows : StackRows g.work.ss nodes g.work.top later h
+  pub low : count + n ≤ m
+  pub cell : (j : ℕ) → j < count → pending_at later j < cells
+  pub bound : (j : ℕ) → j < count → cell_at after (pending_at later j) ≡ 0 → ⊥
+  pub entry : (i : ℕ) → i < m → (ClosesCycle g.work.ss nodes after i → ⊥) ⊎ ((j : ℕ) × ((j < count) × (trail_at after i ≡ pending_at later j)))
+
+-- while none closes a cycle
+pub record SoundSolving {nodes before scratch : List ℕ} {n : ℕ} (g : Solvable nodes before scratch n) (after later : List ℕ) (m h : ℕ) : Type 0 where
   pub stack : Stack g.work.ss nodes (bindings g.work.ss nodes after m) g.work.top (left_at later) (right_at later) h
   pub means : unify_rows (bindings g.work.ss nodes before n) (rows_of g.work.ss nodes (left_at scratch) 1) (rows_of g.work.ss nodes (right_at scratch) 1) ≡ unify_rows (bindings g.work.ss nodes after m) (rows_of g.work.ss nodes (left_at later) h) (rows_of g.work.ss nodes (right_at later) h)
   pub memo : Memo g.work.ss nodes (bindings g.work.ss nodes after m) later
   pub closes : WholesEqual g.work.ss nodes (bindings g.work.ss nodes after m) (left_at later) (right_at later) h no_term no_term
-  pub order : Ordered g.work.ss nodes after later
 
-pub solve-begin : {nodes state scratch : List ℕ} {n : ℕ} (g : Solvable nodes state scratch n) → Solving g state scratch n 1
+-- what the definition answers
+abbrev pub answer_of : {nodes before scratch : List ℕ} {n : ℕ} → Solvable nodes before scratch n → Option (List Binding)
+answer_of {nodes} {before} {scratch} {n} g = unify_rows (bindings g.work.ss nodes before n) (rows_of g.work.ss nodes (left_at scratch) 1) (rows_of g.work.ss nodes (right_at scratch) 1)
+
+pub record Solving {nodes before scratch : List ℕ} {n : ℕ} (g : Solvable nodes before scratch n) (after later : List ℕ) (m h count : ℕ) : Type 0 where
+  pub safe : SafeSolving g after later m h count
+  pub sound : Acyclic g.work.ss nodes after m → SoundSolving g after later m h
+  pub lost : (Acyclic g.work.ss nodes after m → ⊥) → answer_of g ≡ none
+
+-- what follows from a statement and from its contrary, where it is that there is no answer
+either-way : {P : Type 0} (a : Option (List Binding)) → (P → a ≡ none) → ((P → ⊥) → a ≡ none) → a ≡ none
+either-way none f k = refl
+either-way (some b) f k = absurd (never (k (λ p. never (f p))))
+  where
+    never : some b ≡ none → ⊥
+    never e = absurd (cc)
+
+pub solve-begin : {nodes state scratch : List ℕ} {n : ℕ} (g : Solvable nodes state scratch n) → Solving g state scratch n 1 0
 solve-begin {nodes} {state} {scratch} {n} g =
-    record { grows = omega arith; store = g.work.store; within = g.work.within; keeps = keeps-refl n state; clean = g.clean; long = refl; stack = g.work.stack; means = refl; memo = g.work.memo; closes = g.closes; order = g.order }
+    record {
+      safe = record {
+        grows = omega arith;
+        store = g.work.store.raw;
+        within = g.work.within;
+        keeps = keeps-refl n state;
+        clean = g.clean;
+        long = refl;
+        rows = record { low = omega arith; left = side g.work.stack.left; right = side g.work.stack.right; same = g.work.stack.same };
+        low = omega arith;
+        cell = λ j l. absurd (let z : j < 0 = l in omega arith);
+        bound = λ j l. absurd (let z : j < 0 = l in omega arith);
+        entry = λ i l. inl (g.work.store.acyclic i l);
+      };
+      sound = λ f. record { stack = g.work.stack; means = refl; memo = g.work.memo; closes = g.closes };
+      lost = λ z. absurd (z g.work.store.acyclic);
+    }
+  where
+    side : {s : ℕ → _} → StackSide g.work.ss nodes (bindings g.work.ss nodes state n) g.work.top s 1 → SideRows g.work.ss nodes g.work.top s 1
+    side w = record { node = w.node; copy = w.copy; below = w.below; row = w.row }
 
-module _ {nodes before after scratch later : List ℕ} {n m h : ℕ} (g : Solvable nodes before scratch n) (s : Solving g after later m h) where
+-- no bindings but the first n
+no_rows : (ss : List Symbol) (nodes after : List ℕ) → (rows_of ss nodes (left_at after) 0 ≡ rnil) × (rows_of ss nodes (right_at after) 0 ≡ rnil)
+unfolding rows_of
+no_rows ss nodes after = (refl, refl)
+
+module _ {nodes before after scratch later : List ℕ} {n m h count : ℕ} (g : Solvable nodes before scratch n) (s : Solving g after later m h count) where
   abbrev pub ss : List Symbol
   ss = g.work.ss
 
-  abbrev pub b : List Binding
-  b = bindings ss nodes after m
+  solve-few : m ≤ cells
+  solve-few = few ss nodes after m s.safe.store
 
-  abbrev pub solve-work : Work nodes after later m h
-  solve-work = record { ss = ss; top = g.work.top; store = s.store; within = s.within; roomy = (let e : length later ≡ length scratch = s.long in let o : rows ≤ length scratch = g.work.roomy in omega arith); stack = s.stack; memo = s.memo }
+  solve-roomy : rows ≤ length later
+  solve-roomy = let e : length later ≡ length scratch = s.safe.long in let o : rows ≤ length scratch = g.work.roomy in omega arith
 
-  pub solve-ready : ReadyToUnify nodes after later m h
-  solve-ready = record { work = solve-work; closes = s.closes }
+  -- ---- how much is left
 
-  module _ {next : List ℕ} (t : TurnsTaken) (c : (w : ReadyToUnify nodes after later m h) → Advanced w.work next t) where
-    gave : Advanced solve-work next t
-    unfolding solve-ready
-    gave = c solve-ready
+  pub mass-low : mass nodes (left_at later) h < heaviest
+  mass-low =
+      let a : mass nodes (left_at later) h + _ ≤ heaviest = mass-bounded nodes (left_at later) h s.safe.rows.low small in
+      let b : 0 < _ = power-some most_left (suc pairs - h) (omega arith) in
+      omega (arith, a, b)
+    where
+      small : (k : ℕ) → k < h → suc (end_of nodes (left_at later k) - (left_at later k).at) < most_left
+      small k l =
+          let a : end_of nodes (left_at later k) ≤ length nodes = node_end ss nodes (left_at later k).root (s.safe.rows.left.node k l) in
+          let b : length nodes ≤ places = s.safe.store.small in
+          omega arith
 
-    clean-next : Clean next
-    clean-next =
-        let e : length next ≡ length later = gave.0.long in
-        let l : store_words ≤ length later = s.clean.long in
-        record { long = omega arith; zero = λ y o. gave.0.words y (omega arith) ∙ s.clean.zero y o }
+  -- ---- the bindings undone
 
-    long-next : length next ≡ length scratch
-    long-next = gave.0.long ∙ s.long
+  pub solve-stored : Stored after m
+  solve-stored = record { ss = ss; nodes = nodes; store = s.safe.store }
 
-    pub solve-done : t ≡ Ok tt → Solved g after next (record { equal = true; trail = m })
-    unfolding answered
-    solve-done e =
-        let x : Advanced solve-work next (Ok tt) = subst (Advanced solve-work next) e gave in
-        record { grows = s.grows; store = s.store; within = s.within; keeps = s.keeps; clean = clean-next; long = long-next; answer = s.means ∙ x.1 }
+  solved-none : answer_of g ≡ none → {end next : List ℕ} → Undone after end n m → Clean next → length next ≡ length later → Solved g end next (record { equal = false; trail = n })
+  unfolding answered
+  solved-none e {end} {next} u clean long =
+      let kept : BindingsKept n before end = keeps-trans n n before after end (omega arith) s.safe.keeps u.keeps in
+      record {
+        grows = omega arith;
+        store = record { raw = u.store ss nodes s.safe.store; acyclic = acyclic-agrees ss nodes before end n (agrees n before end kept) g.work.store.acyclic };
+        within = within-agrees g.work.top n m after end s.safe.grows (agrees n after end u.keeps) s.safe.within;
+        keeps = kept;
+        clean = clean;
+        long = long ∙ s.safe.long;
+        answer = e;
+      }
 
-    pub solve-clash : {f : TurnStop} → t ≡ Err f → f ≡ Clash → Solved g after next (record { equal = false; trail = m })
-    unfolding answered
-    solve-clash e d =
-        let x : Advanced solve-work next (Err Clash) = subst (Advanced solve-work next) (e ∙ ap Err d) gave in
-        record { grows = s.grows; store = s.store; within = s.within; keeps = s.keeps; clean = clean-next; long = long-next; answer = s.means ∙ x.1 }
+  -- ---- the test for cycles
 
-    module _ {k x : ℕ} {p : At} {f : TurnStop} (e : t ≡ Err f) (d : f ≡ Bind k x p) where
-      binds : BindingDue (over solve-work) (rows_of ss nodes (left_at later) h) (rows_of ss nodes (right_at later) h) next k x p
-      binds = (subst (Advanced solve-work next) (e ∙ ap Err d) gave).1
+  pub solve-testable : Testable nodes after later count
+  solve-testable =
+      record {
+        ss = ss;
+        n = m;
+        store = s.safe.store;
+        roomy = solve-roomy;
+        clean = s.safe.clean;
+        few = (let a : m ≤ cells = solve-few in let b : count + n ≤ m = s.safe.low in omega arith);
+        cell = s.safe.cell;
+        bound = s.safe.bound;
+      }
 
-      abbrev guarding : Guardable nodes after next x p
-      guarding =
-          let e : length next ≡ length scratch = long-next in
-          let o : rows ≤ length scratch = g.work.roomy in
+  module _ {next : List ℕ} {r : Bool} (c : (v : Testable nodes after later count) → Tested v next r) where
+    tested : Tested solve-testable next r
+    tested = c solve-testable
+
+    -- none was found
+    acyclic : r ≡ false → Acyclic ss nodes after m
+    unfolding solve-testable
+    acyclic e i l z = elim (s.safe.entry i l) [ inl k ↦ k z | inr k ↦ tested.free e k.0 k.1.0 i l k.1.1 z ]
+
+    pub solve-cyclic : r ≡ true → {end : List ℕ} → Undone after end n m → Solved g end next (record { equal = false; trail = n })
+    unfolding solve-testable
+    solve-cyclic e u = solved-none (s.lost (tested.cyclic e)) u tested.clean tested.long
+
+    -- and the rows are at their end
+    pub solve-done : r ≡ false → h ≤ 0 → Solved g after next (record { equal = true; trail = m })
+    unfolding answered solve-testable
+    solve-done e l =
+        let z : h ≡ 0 = omega arith in
+        record {
+          grows = s.safe.grows;
+          store = record { raw = s.safe.store; acyclic = acyclic e };
+          within = s.safe.within;
+          keeps = s.safe.keeps;
+          clean = tested.clean;
+          long = tested.long ∙ s.safe.long;
+          answer = (s.sound (acyclic e)).means
+              ∙ (ap (λ (i : ℕ). unify_rows (bindings ss nodes after m) (rows_of ss nodes (left_at later) i) (rows_of ss nodes (right_at later) i)) z
+              ∙ (ap₂ (unify_rows (bindings ss nodes after m)) (no_rows ss nodes later).0 (no_rows ss nodes later).1 ∙ rows-done (bindings ss nodes after m)));
+        }
+
+    pub solve-forget : memo < length next
+    solve-forget = let a : rows ≤ length later = solve-roomy in let e : length next ≡ length later = tested.long in omega arith
+
+    -- on, with nothing pending and no memo
+    module _ (e : r ≡ false) {end : List ℕ} (q : end ≡ set (set next memo 0) cuts_word 0) where
+      end-is : (j : ℕ) → (j ≡ memo → ⊥) → (j ≡ cuts_word → ⊥) → get_or end j 0 ≡ get_or next j 0
+      end-is j a b = ap (λ (x : List ℕ). get_or x j 0) q ∙ (get_or-set_other (set next memo 0) cuts_word j 0 0 b ∙ get_or-set_other next memo j 0 0 a)
+
+      end-long : length end ≡ length later
+      end-long = ap length q ∙ (length-set (set next memo 0) cuts_word 0 ∙ (length-set next memo 0 ∙ tested.long))
+
+      between : (j : ℕ) → store_words ≤ j → j < cuts_word → get_or end j 0 ≡ get_or later j 0
+      between j a b = end-is j (λ z. omega arith) (λ z. omega arith) ∙ tested.kept j a (omega arith)
+
+      left-same : (k : ℕ) → k < h → left_at end k ≡ left_at later k
+      left-same k l = left-kept later end (λ j a b. between j (omega arith) (omega arith)) k (let z : h ≤ pairs = s.safe.rows.low in omega arith)
+
+      right-same : (k : ℕ) → k < h → right_at end k ≡ right_at later k
+      right-same k l = right_kept later end (λ j a b. between j (omega arith) (omega arith)) k (let z : h ≤ pairs = s.safe.rows.low in omega arith)
+
+      no-classes : classes_made end ≡ 0
+      no-classes = ap (λ (x : List ℕ). get_or x memo 0) q ∙ (get_or-set_other (set next memo 0) cuts_word memo 0 0 (λ z. omega arith) ∙ get_or-set_same next memo 0 0 solve-forget)
+
+      no-cuts : cuts_made end ≡ 0
+      no-cuts = ap (λ (x : List ℕ). get_or x cuts_word 0) q ∙ get_or-set_same (set next memo 0) cuts_word 0 0 (let a : memo < length next = solve-forget in let b : length (set next memo 0) ≡ length next = length-set next memo 0 in omega arith)
+
+      pub solve-on : Solving g after end m h 0
+      solve-on =
           record {
-            check = record { ss = ss; n = m; store = s.store; node = binds.node; copy = binds.copy; cell = binds.cell; unbound = binds.unbound; clean = clean-next };
-            roomy = omega arith;
-            order = ordered-kept ss nodes after later next (λ j l h. gave.0.words j (omega arith)) s.order;
+            safe = record {
+              grows = s.safe.grows;
+              store = s.safe.store;
+              within = s.safe.within;
+              keeps = s.safe.keeps;
+              clean = record { long = (let a : store_words ≤ length later = s.safe.clean.long in let b : length end ≡ length later = end-long in omega arith); zero = λ y l. end-is y (λ z. omega arith) (λ z. omega arith) ∙ tested.clean.zero y l };
+              long = end-long ∙ s.safe.long;
+              rows = rows-agreed ss nodes g.work.top later end h left-same right-same s.safe.rows;
+              low = (let o : n ≤ m = s.safe.grows in omega arith);
+              cell = λ j l. absurd (let z : j < 0 = l in omega arith);
+              bound = λ j l. absurd (let z : j < 0 = l in omega arith);
+              entry = λ i l. inl (acyclic e i l);
+            };
+            sound = λ f. (let d : SoundSolving g after later m h = s.sound f in
+                record {
+                  stack = stack-agrees ss nodes (bindings ss nodes after m) g.work.top (left_at later) (right_at later) (left_at end) (right_at end) h left-same right-same d.stack;
+                  means = d.means ∙ ap₂ (unify_rows (bindings ss nodes after m)) (sym (rows_agree ss nodes (left_at later) (left_at end) h left-same)) (sym (rows_agree ss nodes (right_at later) (right_at end) h right-same));
+                  memo = memo-none ss nodes (bindings ss nodes after m) end no-classes no-cuts;
+                  closes = closes-agree ss nodes (bindings ss nodes after m) (left_at later) (right_at later) (left_at end) (right_at end) h no_term no_term left-same right-same d.closes;
+                });
+            lost = s.lost;
           }
 
-      pub solve-check : Guardable nodes after next x p
-      solve-check = guarding
+      pub on-mass : mass nodes (left_at end) h ≡ mass nodes (left_at later) h
+      on-mass = mass-agrees nodes (left_at later) (left_at end) h left-same
 
-      pub solve-height : k ≤ pairs
-      solve-height = height ss nodes b g.work.top (left_at next) (right_at next) k binds.stack
+  -- ---- a turn
 
-      pub solve-room : (x < cells) × ((trail + m < length after) × (word_of p.node p.copy < 2 ^ 32))
-      solve-room =
-          let r : m < cells = room ss nodes after m x s.store binds.cell binds.unbound in
-          let l : store_words ≤ length after = s.store.long in
-          let o : p.node + loaded_node ≤ length nodes = node-inside ss nodes p.node binds.node in
-          let q : length nodes ≤ places = s.store.small in
-          let c1 : p.copy < copies = binds.copy in
-          (binds.cell, (omega arith, omega arith))
+  module _ (some-left : 0 < h) where
+    pub solve-turnable : SafeTurnable nodes after later h
+    solve-turnable = record { n = m; work = record { ss = ss; top = g.work.top; store = s.safe.store; within = s.safe.within; roomy = solve-roomy; rows = s.safe.rows }; some = some-left }
 
-      pub solve-few : m < cells
-      solve-few = room ss nodes after m x s.store binds.cell binds.unbound
+    -- while no entry closes a cycle
+    turnable : Acyclic ss nodes after m → Turnable nodes after later h
+    turnable f =
+        let d : SoundSolving g after later m h = s.sound f in
+        record { n = m; work = record { ss = ss; top = g.work.top; store = record { raw = s.safe.store; acyclic = f }; within = s.safe.within; roomy = solve-roomy; stack = d.stack; memo = d.memo }; some = some-left; closes = d.closes }
 
-      pub solve-closed : {closed r : ℕ} → Closed closed after → Closing closed x p.copy r → {state1 : List ℕ} → state1 ≡ bound_words after m x (word_of p.node p.copy) → Closed r state1
-      solve-closed {closed} {r} c1 h q = subst⁻¹ (Closed r) q (closed-bound after m x p.node p.copy closed r s.store.long solve-few binds.cell binds.copy c1 h)
+    module _ {next : List ℕ} (t : Turn) (c : (v : Turnable nodes after later h) → TurnGives v.work next t) (cs : (v : SafeTurnable nodes after later h) → TurnFalls v.work next t) where
+      gave : (f : Acyclic ss nodes after m) → TurnGives (turnable f).work next t
+      gave f = c (turnable f)
 
-      module _ {end : List ℕ} {r : Bool} (c2 : (w : Guardable nodes after next x p) → Guarded w end r) where
-        checked : Guarded guarding end r
-        checked = c2 guarding
+      fell : TurnFalls solve-turnable.work next t
+      fell = cs solve-turnable
 
-        long-end : length end ≡ length scratch
-        long-end = checked.spared.long ∙ long-next
+      clean-next : SameMarks later next → Clean next
+      clean-next k =
+          let e : length next ≡ length later = k.long in
+          let l : store_words ≤ length later = s.safe.clean.long in
+          record { long = omega arith; zero = λ y o. k.words y (omega arith) ∙ s.safe.clean.zero y o }
 
-        pub solve-stands : r ≡ true → Solved g after end (record { equal = false; trail = m })
-        unfolding answered
-        solve-stands f =
-            record { grows = s.grows; store = s.store; within = s.within; keeps = s.keeps; clean = checked.spared.clean clean-next; long = long-end; answer = s.means ∙ binds.stands (subst T (sym f ∙ checked.answer) tt) }
+      pending-next : SameMarks later next → (j : ℕ) → j < count → pending_at next j ≡ pending_at later j
+      pending-next k j l = k.words (pending + j) (let a : m ≤ cells = solve-few in let b : count + n ≤ m = s.safe.low in omega arith)
 
-        free : r ≡ false → T (occurs (variable_of x) (resolve b (term_at ss nodes p.node p.copy))) → ⊥
-        free f h1 = subst T (sym checked.answer ∙ f) h1
+      -- names clash, or there is no room
+      pub solve-clash : {f : TurnStop} → t ≡ Err f → f ≡ Clash → {end : List ℕ} → Undone after end n m → Solved g end next (record { equal = false; trail = n })
+      unfolding turnable solve-turnable
+      solve-clash e d u =
+          let k : TurnFalls solve-turnable.work next (Err Clash) = subst (TurnFalls solve-turnable.work next) (e ∙ ap Err d) fell in
+          solved-none
+          (either-way {P = Acyclic ss nodes after m} (answer_of g) (λ f. (s.sound f).means ∙ (subst (TurnGives (turnable f).work next) (e ∙ ap Err d) (gave f)).1) s.lost)
+          u (clean-next k.0) k.0.long
 
-        pub solve-next : r ≡ false → {state1 : List ℕ} → state1 ≡ bound_words after m x (word_of p.node p.copy) → Solving g state1 end (m + 1) k
-        solve-next f q =
-            subst⁻¹ (λ (y : List ℕ). Solving g y end (m + 1) k) q
-            (subst (λ (i : ℕ). Solving g (bound_words after m x (word_of p.node p.copy)) end i k) (let i : suc m ≡ m + 1 = omega arith in i)
-            (let o : n ≤ m = s.grows in
-            let new : Binding = record { variable = variable_of x; term = resolve b (term_at ss nodes p.node p.copy) } in
-            let now : bindings ss nodes (bound_words after m x (word_of p.node p.copy)) (suc m) ≡ record { variable = variable_of x; term = resolve b (term_at ss nodes p.node p.copy) } ∷ b = bind-means ss nodes after m x p.node p.copy s.store binds.cell binds.unbound binds.copy in
-            let l-same : (i : ℕ) → i < k → left_at end i ≡ left_at next i = (λ i w. left-kept next end checked.spared.pairs_kept i (let z : k ≤ pairs = solve-height in omega arith)) in
-            let r-same : (i : ℕ) → i < k → right_at end i ≡ right_at next i = (λ i w. right_kept next end checked.spared.pairs_kept i (let z : k ≤ pairs = solve-height in omega arith)) in
+      -- on
+      module _ {j : ℕ} (e : t ≡ Ok j) where
+        fell-on : TurnFalls solve-turnable.work next (Ok j)
+        fell-on = subst (TurnFalls solve-turnable.work next) e fell
+
+        pub turn-next : Solving g after next m j count
+        unfolding turnable solve-turnable
+        turn-next =
             record {
-              grows = omega arith;
-              store = bind-store ss nodes after m x p.node p.copy s.store binds.cell binds.unbound binds.copy binds.node binds.down (free f);
-              within = bind-within ss nodes after m x p.node p.copy s.store binds.cell binds.unbound binds.copy g.work.top s.within binds.below binds.copy_below;
-              keeps = keeps-trans n m before after (bound_words after m x (word_of p.node p.copy)) s.grows s.keeps (bind-keeps ss nodes after m x p.node p.copy s.store binds.cell binds.unbound binds.copy);
-              clean = checked.spared.clean clean-next;
-              long = long-end;
-              stack = subst⁻¹ (λ (y : List Binding). Stack ss nodes y g.work.top (left_at end) (right_at end) k) now (stack-agrees ss nodes (new ∷ b) g.work.top (left_at next) (right_at next) (left_at end) (right_at end) k l-same r-same (stack-bound ss nodes b new g.work.top (left_at next) (right_at next) k binds.stack));
-              means = s.means ∙ (binds.free (free f) ∙ (ap₂ (unify_rows (new ∷ b)) (sym (rows_agree ss nodes (left_at next) (left_at end) k l-same)) (sym (rows_agree ss nodes (right_at next) (right_at end) k r-same)) ∙ ap (λ (y : List Binding). unify_rows y (rows_of ss nodes (left_at end) k) (rows_of ss nodes (right_at end) k)) (sym now)));
-              memo = subst⁻¹ (λ (y : List Binding). Memo ss nodes y end) now (memo-bound ss nodes b end (checked.spared.memo b binds.memo) new);
-              closes = subst⁻¹ (λ (y : List Binding). WholesEqual ss nodes y (left_at end) (right_at end) k no_term no_term) now (closes-agree ss nodes (new ∷ b) (left_at next) (right_at next) (left_at end) (right_at end) k no_term no_term l-same r-same (binds.closes (free f)));
-              order = checked.order f;
-            }))
+              safe = record {
+                grows = s.safe.grows;
+                store = s.safe.store;
+                within = s.safe.within;
+                keeps = s.safe.keeps;
+                clean = clean-next fell-on.0;
+                long = fell-on.0.long ∙ s.safe.long;
+                rows = fell-on.1.rows;
+                low = s.safe.low;
+                cell = λ i l. subst⁻¹ (λ (y : ℕ). y < cells) (pending-next fell-on.0 i l) (s.safe.cell i l);
+                bound = λ i l z. s.safe.bound i l (ap (cell_at after) (sym (pending-next fell-on.0 i l)) ∙ z);
+                entry = λ i l. elim (s.safe.entry i l) [ inl k ↦ inl k | inr k ↦ inr (k.0, (k.1.0, k.1.1 ∙ sym (pending-next fell-on.0 k.0 k.1.0))) ];
+              };
+              sound = λ f. (let k : TurnGives (turnable f).work next (Ok j) = subst (TurnGives (turnable f).work next) e (gave f) in
+                  record { stack = k.1.stack; means = (s.sound f).means ∙ k.1.means; memo = k.1.memo; closes = k.1.closes });
+              lost = s.lost;
+            }
+
+        pub turn-falls : mass nodes (left_at next) j < mass nodes (left_at later) h
+        unfolding solve-turnable
+        turn-falls = fell-on.1.less
+
+      -- a binding
+      module _ {k x : ℕ} {p : At} {f : TurnStop} (e : t ≡ Err f) (d : f ≡ Bind k x p) where
+        due-safe : TurnFalls solve-turnable.work next (Err (Bind k x p))
+        due-safe = subst (TurnFalls solve-turnable.work next) (e ∙ ap Err d) fell
+
+        safe : SafeBinding ss nodes after g.work.top next k x p
+        unfolding solve-turnable
+        safe = due-safe.1
+
+        due : (a : Acyclic ss nodes after m) → BindingDue (over (turnable a).work) (rows_of ss nodes (left_at later) h) (rows_of ss nodes (right_at later) h) next k x p
+        unfolding turnable
+        due a = (subst (TurnGives (turnable a).work next) (e ∙ ap Err d) (gave a)).1
+
+        space : m < cells
+        space = room ss nodes after m x s.safe.store safe.cell safe.unbound
+
+        next-long : length next ≡ length later
+        next-long = due-safe.0.long
+
+        pub due-stored : StoredTerm nodes after p.node p.copy
+        due-stored = record { ss = ss; n = m; store = s.safe.store; known = false; acyclic = λ z. absurd z; node = safe.node; copy = safe.copy }
+
+        pub due-room : ((x < cells) × ((trail + m < length after) × (word_of p.node p.copy < 2 ^ 32))) × ((m < cells) × ((count < cells) × (rows ≤ length next)))
+        due-room =
+            let l : store_words ≤ length after = s.safe.store.long in
+            let o : p.node + loaded_node ≤ length nodes = node-inside ss nodes p.node safe.node in
+            let q : length nodes ≤ places = s.safe.store.small in
+            let c1 : p.copy < copies = safe.copy in
+            let r : m < cells = space in
+            let w : count + n ≤ m = s.safe.low in
+            let v : rows ≤ length later = solve-roomy in
+            let u : length next ≡ length later = next-long in
+            ((safe.cell, (omega arith, omega arith)), (r, (omega arith, omega arith)))
+
+        pub due-closed : {closed r : ℕ} → Closed closed after → Closing closed x p.copy r → {state1 : List ℕ} → state1 ≡ bound_words after m x (word_of p.node p.copy) → Closed r state1
+        due-closed {closed} {r} c1 h1 q = subst⁻¹ (Closed r) q (closed-bound after m x p.node p.copy closed r s.safe.store.long space safe.cell safe.copy c1 h1)
+
+        -- the state with the binding
+        abbrev now : List ℕ
+        now = bound_words after m x (word_of p.node p.copy)
+
+        kept : BindingsKept m after now
+        kept = bind-keeps ss nodes after m x p.node p.copy s.safe.store safe.cell safe.unbound safe.copy
+
+        closing-is : ClosesCycle ss nodes now m → T (occurs (variable_of x) (resolve (bindings ss nodes after m) (term_at ss nodes p.node p.copy)))
+        closing-is z = subst T (bind-closing ss nodes after m x p.node p.copy s.safe.store safe.cell safe.unbound safe.copy) z
+
+        closing-here : T (occurs (variable_of x) (resolve (bindings ss nodes after m) (term_at ss nodes p.node p.copy))) → ClosesCycle ss nodes now m
+        closing-here z = subst⁻¹ T (bind-closing ss nodes after m x p.node p.copy s.safe.store safe.cell safe.unbound safe.copy) z
+
+        earlier : Acyclic ss nodes now (suc m) → Acyclic ss nodes after m
+        earlier = bind-earlier ss nodes after m x p.node p.copy s.safe.store safe.cell safe.unbound safe.copy
+
+        -- no unifier, if an entry closes a cycle now
+        lost-now : (Acyclic ss nodes now (suc m) → ⊥) → answer_of g ≡ none
+        unfolding turnable
+        lost-now z = either-way {P = Acyclic ss nodes after m} (answer_of g) (λ a. stands a (occurs (variable_of x) (resolve (bindings ss nodes after m) (term_at ss nodes p.node p.copy))) refl) s.lost
+          where
+            stands : (a : Acyclic ss nodes after m) (o : Bool) → occurs (variable_of x) (resolve (bindings ss nodes after m) (term_at ss nodes p.node p.copy)) ≡ o → answer_of g ≡ none
+            stands a true q = (s.sound a).means ∙ (due a).stands (subst⁻¹ T q tt)
+            stands a false q = absurd (z (bind-acyclic ss nodes after m x p.node p.copy s.safe.store safe.cell safe.unbound safe.copy a (λ w. subst T q w)))
+
+        -- the words after, with the cell among the pending ones or not
+        module _ (end : List ℕ) (new : ℕ) (end-long : length end ≡ length next) (beside : (j : ℕ) → (j ≡ pending + count → ⊥) → get_or end j 0 ≡ get_or next j 0)
+            (here : ((ClosesCycle ss nodes now m → ⊥) × (new ≡ count)) ⊎ ((new ≡ count + 1) × (pending_at end count ≡ x))) where
+          new-low : (count ≤ new) × (new ≤ count + 1)
+          new-low = elim here [ inl z ↦ omega (arith, z.1) | inr z ↦ omega (arith, z.0) ]
+
+          few-now : count < cells
+          few-now = due-room.1.1.0
+
+          left-still : (i : ℕ) → i < k → left_at end i ≡ left_at next i
+          left-still i l = left-kept next end (λ j a b. beside j (λ q. (let w : count < cells = few-now in omega arith))) i (let z : k ≤ pairs = safe.rows.low in omega arith)
+
+          right-still : (i : ℕ) → i < k → right_at end i ≡ right_at next i
+          right-still i l = right_kept next end (λ j a b. beside j (λ q. (let w : count < cells = few-now in omega arith))) i (let z : k ≤ pairs = safe.rows.low in omega arith)
+
+          pending-same : (j : ℕ) → j < count → pending_at end j ≡ pending_at later j
+          pending-same j l = beside (pending + j) (λ q. omega arith) ∙ pending-next due-safe.0 j l
+
+          -- a cell that was bound is so still
+          bound-still : (y : ℕ) → y < cells → (cell_at after y ≡ 0 → ⊥) → cell_at now y ≡ 0 → ⊥
+          bound-still y l a z = go (eqb y x) refl
+            where
+              go : (b : Bool) → eqb y x ≡ b → ⊥
+              go true q = a (ap (cell_at after) (eqb-true y x q) ∙ safe.unbound)
+              go false q = a (sym (bound-cells after m x (word_of p.node p.copy) s.safe.store.long space safe.cell y l (eqb-false y x q)) ∙ z)
+
+          at-new : (P : ℕ → Type 0) (j : ℕ) → j < new → (j < count → P j) → (new ≡ count + 1 → pending_at end count ≡ x → P count) → P j
+          at-new P j l low top = go (ltb j count) refl
+            where
+              go : (b : Bool) → ltb j count ≡ b → P j
+              go true q = low (ltb-true j count q)
+              go false q =
+                  let a : count ≤ j = ltb-false j count q in
+                  let b : j ≡ count = omega (arith, new-low) in
+                  elim here [ inl z ↦ absurd (omega (arith, z.1)) | inr z ↦ subst⁻¹ P b (top z.0 z.1) ]
+
+          safe-now : SafeSolving g now end (suc m) k new
+          safe-now =
+              record {
+                grows = (let o : n ≤ m = s.safe.grows in omega arith);
+                store = bind-raw ss nodes after m x p.node p.copy s.safe.store safe.cell safe.unbound safe.copy safe.node safe.down;
+                within = bind-within ss nodes after m x p.node p.copy s.safe.store safe.cell safe.unbound safe.copy g.work.top s.safe.within safe.below safe.copy_below;
+                keeps = keeps-trans n m before after now s.safe.grows s.safe.keeps kept;
+                clean = record { long = (let a : store_words ≤ length later = s.safe.clean.long in let b : length next ≡ length later = next-long in let w : length end ≡ length next = end-long in omega arith); zero = λ y l. beside y (λ q. omega arith) ∙ (clean-next due-safe.0).zero y l };
+                long = end-long ∙ (next-long ∙ s.safe.long);
+                rows = rows-agreed ss nodes g.work.top next end k left-still right-still safe.rows;
+                low = (let w : count + n ≤ m = s.safe.low in omega (arith, new-low));
+                cell = λ j l. cell-now j l;
+                bound = λ j l. bound-now j l;
+                entry = λ i l. entry-at i l (eqb i m) refl;
+              }
+            where
+              cell-now : (j : ℕ) → j < new → pending_at end j < cells
+              cell-now j l = at-new (λ (i : ℕ). pending_at end i < cells) j l (λ o. subst⁻¹ (λ (y : ℕ). y < cells) (pending-same j o) (s.safe.cell j o)) (λ a b. subst⁻¹ (λ (y : ℕ). y < cells) b safe.cell)
+
+              bound-now : (j : ℕ) → j < new → cell_at now (pending_at end j) ≡ 0 → ⊥
+              bound-now j l =
+                  at-new (λ (i : ℕ). cell_at now (pending_at end i) ≡ 0 → ⊥) j l
+                  (λ o z. bound-still (pending_at later j) (s.safe.cell j o) (s.safe.bound j o) (ap (cell_at now) (sym (pending-same j o)) ∙ z))
+                  (λ a b z. word_some p.node p.copy (sym (bound-cell after m x (word_of p.node p.copy) s.safe.store.long space safe.cell) ∙ (ap (cell_at now) (sym b) ∙ z)))
+
+              entry-at : (i : ℕ) → i < suc m → (b : Bool) → eqb i m ≡ b → (ClosesCycle ss nodes now i → ⊥) ⊎ ((j : ℕ) × ((j < new) × (trail_at now i ≡ pending_at end j)))
+              entry-at i l true q =
+                  subst⁻¹ (λ (y : ℕ). (ClosesCycle ss nodes now y → ⊥) ⊎ ((j : ℕ) × ((j < new) × (trail_at now y ≡ pending_at end j)))) (eqb-true i m q)
+                  (elim here [ inl z ↦ inl z.0 | inr z ↦ inr (count, (omega (arith, z.0), bound-entry after m x (word_of p.node p.copy) s.safe.store.long space safe.cell ∙ sym z.1)) ])
+              entry-at i l false q =
+                  let o : i < m = (let z : i ≡ m → ⊥ = eqb-false i m q in omega (arith, z)) in
+                  elim (s.safe.entry i o) [
+                    | inl z ↦ inl (λ w. z (bind-closed ss nodes after m x p.node p.copy s.safe.store safe.cell safe.unbound safe.copy i o w))
+                    | inr z ↦ inr (z.0, (omega (arith, new-low, z.1.0), kept.entry i o ∙ (z.1.1 ∙ sym (pending-same z.0 z.1.0))))
+                  ]
+
+          sound-now : Acyclic ss nodes now (suc m) → SoundSolving g now end (suc m) k
+          unfolding turnable
+          sound-now a =
+              let old : Acyclic ss nodes after m = earlier a in
+              let free : T (occurs (variable_of x) (resolve (bindings ss nodes after m) (term_at ss nodes p.node p.copy))) → ⊥ = (λ z. a m (omega arith) (closing-here z)) in
+              let q : BindingDue (over (turnable old).work) (rows_of ss nodes (left_at later) h) (rows_of ss nodes (right_at later) h) next k x p = due old in
+              let one : Binding = record { variable = variable_of x; term = resolve (bindings ss nodes after m) (term_at ss nodes p.node p.copy) } in
+              let is : bindings ss nodes now (suc m) ≡ record { variable = variable_of x; term = resolve (bindings ss nodes after m) (term_at ss nodes p.node p.copy) } ∷ bindings ss nodes after m = bind-means ss nodes after m x p.node p.copy s.safe.store safe.cell safe.unbound safe.copy in
+              record {
+                stack = subst⁻¹ (λ (y : List Binding). Stack ss nodes y g.work.top (left_at end) (right_at end) k) is (stack-agrees ss nodes (one ∷ bindings ss nodes after m) g.work.top (left_at next) (right_at next) (left_at end) (right_at end) k left-still right-still (stack-bound ss nodes (bindings ss nodes after m) one g.work.top (left_at next) (right_at next) k q.stack));
+                means = (s.sound old).means ∙ (q.free free ∙ (ap₂ (unify_rows (one ∷ bindings ss nodes after m)) (sym (rows_agree ss nodes (left_at next) (left_at end) k left-still)) (sym (rows_agree ss nodes (right_at next) (right_at end) k right-still)) ∙ ap (λ (y : List Binding). unify_rows y (rows_of ss nodes (left_at end) k) (rows_of ss nodes (right_at end) k)) (sym is)));
+                memo = subst⁻¹ (λ (y : List Binding). Memo ss nodes y end) is (memo-bound ss nodes (bindings ss nodes after m) end (memo-kept ss nodes (bindings ss nodes after m) next q.memo end (λ j l. beside j (λ z. (let w : count < cells = few-now in omega arith)))) one);
+                closes = subst⁻¹ (λ (y : List Binding). WholesEqual ss nodes y (left_at end) (right_at end) k no_term no_term) is (closes-agree ss nodes (one ∷ bindings ss nodes after m) (left_at next) (right_at next) (left_at end) (right_at end) k no_term no_term left-still right-still (q.closes free));
+              }
+
+          bind-on : {state1 : List ℕ} → state1 ≡ now → Solving g state1 end (m + 1) k new
+          bind-on q =
+              subst⁻¹ (λ (y : List ℕ). Solving g y end (m + 1) k new) q
+              (subst (λ (i : ℕ). Solving g now end i k new) (let i : suc m ≡ m + 1 = omega arith in i) (record { safe = safe-now; sound = sound-now; lost = lost-now }))
+
+        -- it is plain that it closes no cycle, or it is noted
+        pub bind-next : {closed new : ℕ} {plain : Bool} {end state1 : List ℕ} → Closed closed after → ((v : StoredTerm nodes after p.node p.copy) → plain ≡ true → Plain nodes after x p.node p.copy closed ⊎ Shallow v x)
+            → (plain ≡ true → (end ≡ next) × (new ≡ count)) → (plain ≡ false → (end ≡ set next (pending + count) x) × (new ≡ count + 1)) → state1 ≡ now → Solving g state1 end (m + 1) k new
+        unfolding due-stored
+        bind-next {closed} {new} {plain} {end} {state1} c1 pl passed noted q = go plain refl
+          where
+            go : (b : Bool) → plain ≡ b → Solving g state1 end (m + 1) k new
+            go true e1 =
+                bind-on end new (ap length (passed e1).0) (λ j z. ap (λ (y : List ℕ). get_or y j 0) (passed e1).0)
+                (inl ((λ z. elim (pl due-stored e1) [ inl w ↦ plain-free ss nodes after m x p.node p.copy s.safe.store safe.node safe.copy closed c1 w (closing-is z) | inr w ↦ shallow-free due-stored w (closing-is z) ]), (passed e1).1)) q
+            go false e1 =
+                bind-on end new (ap length (noted e1).0 ∙ length-set next (pending + count) x) (λ j z. ap (λ (y : List ℕ). get_or y j 0) (noted e1).0 ∙ get_or-set_other next (pending + count) j x 0 z)
+                (inr ((noted e1).1, ap (λ (y : List ℕ). get_or y (pending + count) 0) (noted e1).0 ∙ get_or-set_same next (pending + count) x 0 (let a : count < cells = due-room.1.1.0 in let b : rows ≤ length next = due-room.1.1.1 in omega arith))) q
+
+-- ---- how much is left of the loop
+
+-- what turns and bindings make less, and the test where it is due
+abbrev pub loop_left : List ℕ → List ℕ → ℕ → ℕ → ℕ → ℕ
+loop_left nodes scratch m h left = 2 * ((cells - m) * heaviest + mass nodes (left_at scratch) h) + (1 - left)
+
+pub bind-falls : (nodes later end : List ℕ) (m h k left less : ℕ) → m < cells → mass nodes (left_at end) k < heaviest → loop_left nodes end (m + 1) k less < loop_left nodes later m h left
+bind-falls nodes later end m h k left less l w =
+    let a : suc (cells - (m + 1)) * heaviest ≡ (cells - (m + 1)) * heaviest + heaviest = suc-mul (cells - (m + 1)) heaviest in
+    let b : (cells - m) * heaviest ≡ suc (cells - (m + 1)) * heaviest = ap (λ (i : ℕ). i * heaviest) (let e : cells - m ≡ suc (cells - (m + 1)) = omega arith in e) in
+    omega arith

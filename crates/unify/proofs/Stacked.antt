@@ -11,7 +11,7 @@ use lib.Seq.{get_or-set_same, get_or-set_other}
 use borrow.Author.Tests.{ltb-true, ltb-false, eqb-true, eqb-false}
 use Rattle.syntax.specs.Words.{first_name}
 use Rattle.machine.specs.Substitution.{RTerm, var, replace, Binding, resolve}
-use Rattle.run_layout.specs.Regions.{cut_list, copies, cells, stack, pairs, pair_of, loaded_node, side_size, pair_size}
+use Rattle.run_layout.specs.Regions.{cut_list, copies, cells, stack, big_pairs, pairs, pair_of, loaded_node, side_size, pair_size}
 use Rattle.run_layout.specs.Nodes.{Symbol, name_of_symbol, Node, Row, term_at, terms_at, followed, count}
 use Rattle.run_layout.specs.State.{variable_of}
 use Rattle.run_layout.proofs.Nodes.{compound-at, compound-row}
@@ -226,26 +226,26 @@ module _ (ss : List Symbol) (nodes : List ℕ) (b : List Binding) (top : ℕ) (s
       let y : nodes_of (resolve b (whole_of ss nodes (s k))) ≡ nodes_of (resolve b (whole_of ss nodes (s l))) = ap nodes_of e in
       omega arith
 
--- the pairs are no more than the cells, once for each side, and one
+-- the pairs are no more than the cells, once for each side, and those below
 pub height : (ss : List Symbol) (nodes : List ℕ) (b : List Binding) (top : ℕ) (l r : ℕ → Side) (h : ℕ) → Stack ss nodes b top l r h → h ≤ pairs
-height ss nodes b top l r h st = let k : h - 1 ≤ 2 * cells = pigeonhole (2 * cells) (h - 1) (λ j. st.via (j + 1)) (λ j q. (st.vias (j + 1) (omega arith) (omega arith)).small) apart in omega arith
+height ss nodes b top l r h st = let k : h - big_pairs ≤ 2 * cells = pigeonhole (2 * cells) (h - big_pairs) (λ j. st.via (j + big_pairs)) (λ j q. (st.vias (j + big_pairs) (omega arith) (omega arith)).small) apart in omega arith
   where
-    ordered : (i j : ℕ) → i < j → j < h - 1 → st.via (i + 1) ≡ st.via (j + 1) → (q : Bool) → ltb (st.via (i + 1)) cells ≡ q → ⊥
+    ordered : (i j : ℕ) → i < j → j < h - big_pairs → st.via (i + big_pairs) ≡ st.via (j + big_pairs) → (q : Bool) → ltb (st.via (i + big_pairs)) cells ≡ q → ⊥
     ordered i j q w e true x =
-        let a : st.via (i + 1) < cells = ltb-true (st.via (i + 1)) cells x in
-        let c : st.via (j + 1) < cells = omega arith in
-        wholes-apart ss nodes b top l h st.left (i + 1) (j + 1) (omega arith) (omega arith) (omega arith)
-        (sym ((st.vias (i + 1) (omega arith) (omega arith)).left_is a) ∙ (ap (λ (v : ℕ). resolve b (var (variable_of v))) e ∙ (st.vias (j + 1) (omega arith) (omega arith)).left_is c))
+        let a : st.via (i + big_pairs) < cells = ltb-true (st.via (i + big_pairs)) cells x in
+        let c : st.via (j + big_pairs) < cells = omega arith in
+        wholes-apart ss nodes b top l h st.left (i + big_pairs) (j + big_pairs) (omega arith) (omega arith) (omega arith)
+        (sym ((st.vias (i + big_pairs) (omega arith) (omega arith)).left_is a) ∙ (ap (λ (v : ℕ). resolve b (var (variable_of v))) e ∙ (st.vias (j + big_pairs) (omega arith) (omega arith)).left_is c))
     ordered i j q w e false x =
-        let a : cells ≤ st.via (i + 1) = ltb-false (st.via (i + 1)) cells x in
-        let c : cells ≤ st.via (j + 1) = omega arith in
-        wholes-apart ss nodes b top r h st.right (i + 1) (j + 1) (omega arith) (omega arith) (omega arith)
-        (sym ((st.vias (i + 1) (omega arith) (omega arith)).right_is a) ∙ (ap (λ (v : ℕ). resolve b (var (variable_of (v - cells)))) e ∙ (st.vias (j + 1) (omega arith) (omega arith)).right_is c))
+        let a : cells ≤ st.via (i + big_pairs) = ltb-false (st.via (i + big_pairs)) cells x in
+        let c : cells ≤ st.via (j + big_pairs) = omega arith in
+        wholes-apart ss nodes b top r h st.right (i + big_pairs) (j + big_pairs) (omega arith) (omega arith) (omega arith)
+        (sym ((st.vias (i + big_pairs) (omega arith) (omega arith)).right_is a) ∙ (ap (λ (v : ℕ). resolve b (var (variable_of (v - cells)))) e ∙ (st.vias (j + big_pairs) (omega arith) (omega arith)).right_is c))
 
-    apart : (i j : ℕ) → i < h - 1 → j < h - 1 → st.via (i + 1) ≡ st.via (j + 1) → i ≡ j
+    apart : (i j : ℕ) → i < h - big_pairs → j < h - big_pairs → st.via (i + big_pairs) ≡ st.via (j + big_pairs) → i ≡ j
     apart i j q w e =
-        let x : i < j → ⊥ = (λ k. ordered i j k w e (ltb (st.via (i + 1)) cells) refl) in
-        let y : j < i → ⊥ = (λ k. ordered j i k q (sym e) (ltb (st.via (j + 1)) cells) refl) in
+        let x : i < j → ⊥ = (λ k. ordered i j k w e (ltb (st.via (i + big_pairs)) cells) refl) in
+        let y : j < i → ⊥ = (λ k. ordered j i k q (sym e) (ltb (st.via (j + big_pairs)) cells) refl) in
         omega (arith, x, y)
 
 -- ---- both sides

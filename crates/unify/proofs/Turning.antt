@@ -1,19 +1,19 @@
 -- Laws of a turn: the top pair's rows walked, the crossing dereferenced. Assumes nothing.
-use Prim.Native.Nat.{ℕ, suc, ◌+◌, ◌-◌, ◌*◌, ◌≤◌, ◌<◌, ◌^◌}
+use Prim.Native.Nat.{ℕ, suc, ◌+◌, ◌-◌, ◌≤◌, ◌<◌}
 use native.Mathlib.Omega.{arith}
 use mathlib.Core.Path.{◌≡◌, refl, sym, ap, ap₂, ◌∙◌, subst, subst⁻¹}
 use mathlib.Core.Bool.{Bool, true, false}
 use mathlib.Core.List.{List, [], ◌++◌}
-use lib.Dec.{eqb}
-use borrow.Author.Tests.{eqb-true, eqb-false}
+use lib.Dec.{ltb, eqb}
+use borrow.Author.Tests.{ltb-true, ltb-false, eqb-true, eqb-false}
 use mathlib.Core.Logic.{◌⊎◌, inl, inr}
 use lib.ListN.{length, get_or}
 use Rattle.syntax.specs.Words.{first_name}
 use Rattle.machine.specs.Substitution.{RTerms, var, app, rcons, Binding, resolve}
-use Rattle.run_layout.specs.Regions.{copies, places, cells, store_words, pairs, pair_of, rows, loaded_node, pair_size}
+use Rattle.run_layout.specs.Regions.{copies, cells, store_words, big_pairs, pairs, pair_of, rows, pair_size}
 use Rattle.run_layout.specs.Nodes.{Node, Row, term_at, terms_at, followed, count}
 use Rattle.run_layout.specs.State.{cell_of, variable_of, word_of, value_of, bindings}
-use Rattle.run_layout.proofs.Nodes.{node-inside, node_end, variable-at, row_first, row-rest, row_cons}
+use Rattle.run_layout.proofs.Nodes.{variable-at, row_first, row-rest, row_cons}
 use Rattle.run_layout.proofs.State.{variable-cell, cell-small}
 use Rattle.bindings.specs.Cells.{Dereferences}
 use Rattle.bindings.specs.Memos.{Remembers}
@@ -24,7 +24,7 @@ use Rattle.bindings.specs.Chains.{Eased, Both, BothFollowed}
 use Rattle.bindings.specs.declared.shortcuts.Ends.{Ends}
 use Rattle.bindings.proofs.Remembering.{value-word, memo-kept, memo-eased, memo-remembers}
 use Rattle.unify.specs.Rows.{unify_rows, nodes_of, rows_size}
-use Rattle.unify.specs.Walks.{RowsBeside, Walkable, StopsAt, Walks}
+use Rattle.unify.specs.Walks.{RowsBeside, Walkable, StopsAt, Walks, MetVariable}
 use Rattle.unify.specs.Stacks.{end_of, whole_of, row_of, rows_of, StackSide, OpenedByCell, Stack, SameRows, no_term, WholesEqual}
 use Rattle.unify.specs.Turns.{Work, UnifiedOver, bound, over, Inside, Turns, TurnGives, Crossed, PairTurned, Crossable, Crosses, Meetable, Passable, Turnable}
 use Rattle.unify.specs.Walks.{RowsWalked}
@@ -34,7 +34,7 @@ use Rattle.std.proofs.Common.{Ok, Err}
 use Rattle.unify.specs.Turns.{Turn}
 use Rattle.unify.specs.declared.solve.TurnStop.TheVariants.{Clash, Bind}
 use Rattle.unify.proofs.Rules.{rows-first, resolve-append}
-use Rattle.unify.proofs.Rowwise.{size-cons, size-followed, one-followed, right-some, count-one}
+use Rattle.unify.proofs.Rowwise.{size-cons, one-followed, right-some, count-one}
 use Rattle.unify.proofs.Closing.{equal-cons, walk-equal, meet-equal, closes-agree, closes-terms, closes-less, closes-moved}
 use Rattle.unify.proofs.Stacked.{pair-long, pair-others, pair-marks, pair_left, pair-right, pair-left-others, pair-right-others, left-front, right-front, rows_agree, rows-top, half-moved, stack-agrees, stack-less, height}
 
@@ -42,38 +42,38 @@ marks-trans : (a b c : List ℕ) → SameMarks a b → SameMarks b c → SameMar
 marks-trans a b c x y = record { long = y.long ∙ x.long; words = λ j l. y.words j l ∙ x.words j l }
 
 -- rows that unify alike come to the same
-pub turns-alike : (o : UnifiedOver) (ls rs ls' rs' : RTerms) (size size' : ℕ) (after : List ℕ) (t : Turn) → unify_rows (bound o) ls rs ≡ unify_rows (bound o) ls' rs' → size' ≤ size → Turns o ls' rs' size' after t → Turns o ls rs size after t
-turns-alike o ls rs ls' rs' size size' after (Ok k) e l g = record { stack = g.stack; means = e ∙ g.means; less = (let z : 2 * rows_size (bound o) (rows_of o.ss o.nodes (left_at after) k) + k < size' = g.less in omega arith); memo = g.memo; closes = g.closes }
-turns-alike o ls rs ls' rs' size size' after (Err Clash) e l g = e ∙ g
-turns-alike o ls rs ls' rs' size size' after (Err (Bind k x a)) e l g =
+pub turns-alike : (o : UnifiedOver) (ls rs ls' rs' : RTerms) (after : List ℕ) (t : Turn) → unify_rows (bound o) ls rs ≡ unify_rows (bound o) ls' rs' → Turns o ls' rs' after t → Turns o ls rs after t
+turns-alike o ls rs ls' rs' after (Ok k) e g = record { stack = g.stack; means = e ∙ g.means; memo = g.memo; closes = g.closes }
+turns-alike o ls rs ls' rs' after (Err Clash) e g = e ∙ g
+turns-alike o ls rs ls' rs' after (Err (Bind k x a)) e g =
     record { stack = g.stack; cell = g.cell; unbound = g.unbound; below = g.below; node = g.node; copy = g.copy; copy_below = g.copy_below; down = g.down; stands = λ z. e ∙ g.stands z; free = λ z. e ∙ g.free z; memo = g.memo; closes = g.closes }
 
 -- ---- the crossing
 
 module _ {nodes state scratch : List ℕ} {h : ℕ} {p q : At} (g : Crossable nodes state scratch h p q) where
   pub cross-long : cells ≤ length state
-  cross-long = let l : store_words ≤ length state = g.work.store.long in omega arith
+  cross-long = let l : store_words ≤ length state = g.work.store.raw.long in omega arith
 
   abbrev pub cross-both : Both nodes state scratch p q
   cross-both =
       record {
         left = record {
-          from = record { state = state; given = record { ss = g.work.ss; n = g.n; store = g.work.store; node = g.left; copy = g.copy }; long = cross-long; same = λ x l. refl };
+          from = record { state = state; given = record { ss = g.work.ss; n = g.n; store = g.work.store.raw; known = true; acyclic = λ f. g.work.store.acyclic; node = g.left; copy = g.copy }; long = cross-long; same = λ x l. refl };
           roomy = g.work.roomy;
-          cuts = g.work.memo.cuts;
+          cuts = λ f. g.work.memo.cuts;
         };
         node = g.right;
         copy = g.copy_right;
       }
 
-  module _ {p1 q1 : At} (to-left : Dereferences g.work.ss nodes state g.n p.node p.copy p1.node p1.copy) (to-right : Dereferences g.work.ss nodes state g.n q.node q.copy q1.node q1.copy) where
+  module _ {p1 q1 : At} (to-left : Dereferences true g.work.ss nodes state g.n p.node p.copy p1.node p1.copy) (to-right : Dereferences true g.work.ss nodes state g.n q.node q.copy q1.node q1.copy) where
     still : (top : Side) (a a1 : At) → resolve (bound (over g.work)) (term_at g.work.ss nodes a1.node a1.copy) ≡ resolve (bound (over g.work)) (term_at g.work.ss nodes a.node a.copy) → Inside (over g.work) h top a → Inside (over g.work) h top a1
     still top a a1 e i = λ l newer.
         let b : List Binding = bound (over g.work) in
         subst⁻¹ (λ (k : ℕ). k < nodes_of (resolve (newer ++ b) (whole_of g.work.ss nodes top)))
         (ap nodes_of (resolve-append newer b (term_at g.work.ss nodes a1.node a1.copy) ∙ (ap (resolve newer) e ∙ sym (resolve-append newer b (term_at g.work.ss nodes a.node a.copy))))) (i l newer)
 
-    crossing : (v : ℕ) → OpenedByCell (bindings g.work.ss nodes state g.n) v (term_at g.work.ss nodes p1.node p1.copy) (term_at g.work.ss nodes q1.node q1.copy) → Crossed nodes scratch h p1 q1
+    crossing : (v : ℕ) → (big_pairs ≤ h → OpenedByCell (bindings g.work.ss nodes state g.n) v (term_at g.work.ss nodes p1.node p1.copy) (term_at g.work.ss nodes q1.node q1.copy)) → Crossed nodes scratch h p1 q1
     crossing v w =
         record {
           state = state;
@@ -83,25 +83,29 @@ module _ {nodes state scratch : List ℕ} {h : ℕ} {p q : At} (g : Crossable no
           left = record { node = to-left.leads.node; copy = to-left.leads.copy; below = to-left.leads.within g.work.top g.work.within g.below; stops = to-left.stops };
           right = record { node = to-right.leads.node; copy = to-right.leads.copy; below = to-right.leads.within g.work.top g.work.within g.below_right; stops = to-right.stops };
           via = v;
-          via_is = λ x y. w;
-          inside = still (left_at scratch (h - 1)) p p1 to-left.leads.means g.inside;
-          inside_right = still (right_at scratch (h - 1)) q q1 to-right.leads.means g.inside_right;
-          closes = closes-terms g.work.ss nodes (bindings g.work.ss nodes state g.n) (left_at scratch) (right_at scratch) h (term_at g.work.ss nodes p.node p.copy) (term_at g.work.ss nodes q.node q.copy) (term_at g.work.ss nodes p1.node p1.copy) (term_at g.work.ss nodes q1.node q1.copy) to-left.leads.means to-right.leads.means g.closes;
+          via_is = λ o x y. w o;
+          inside = still (left_at scratch (h - 1)) p p1 (to-left.leads.means tt) g.inside;
+          inside_right = still (right_at scratch (h - 1)) q q1 (to-right.leads.means tt) g.inside_right;
+          closes = closes-terms g.work.ss nodes (bindings g.work.ss nodes state g.n) (left_at scratch) (right_at scratch) h (term_at g.work.ss nodes p.node p.copy) (term_at g.work.ss nodes q.node q.copy) (term_at g.work.ss nodes p1.node p1.copy) (term_at g.work.ss nodes q1.node q1.copy) (to-left.leads.means tt) (to-right.leads.means tt) g.closes;
         }
 
     cell-of : (i j : ℕ) → Node g.work.ss nodes i → get_or nodes i 0 < first_name → resolve (bindings g.work.ss nodes state g.n) (var (variable_of (cell_of j (get_or nodes i 0)))) ≡ resolve (bindings g.work.ss nodes state g.n) (term_at g.work.ss nodes i j)
     cell-of i j n l = ap (resolve (bindings g.work.ss nodes state g.n)) (ap var (variable-cell j (get_or nodes i 0) l) ∙ sym (variable-at g.work.ss nodes i n j l))
 
     pub cross-settle : Crossed nodes scratch h p1 q1
-    cross-settle = crossing (via-of g.variable).0 (via-of g.variable).1
+    cross-settle = crossing (via-by (ltb h big_pairs) refl).0 (via-by (ltb h big_pairs) refl).1
       where
         via-of : (get_or nodes p.node 0 < first_name) ⊎ (get_or nodes q.node 0 < first_name) → (v : ℕ) × OpenedByCell (bindings g.work.ss nodes state g.n) v (term_at g.work.ss nodes p1.node p1.copy) (term_at g.work.ss nodes q1.node q1.copy)
         via-of (inl l) =
             let s : cell_of p.copy (get_or nodes p.node 0) < cells = cell-small p.copy (get_or nodes p.node 0) g.copy l in
-            (cell_of p.copy (get_or nodes p.node 0), record { small = omega arith; left_is = λ k. cell-of p.node p.copy g.left l ∙ sym to-left.leads.means; right_is = λ k. absurd (let z : cells ≤ cell_of p.copy (get_or nodes p.node 0) = k in omega arith) })
+            (cell_of p.copy (get_or nodes p.node 0), record { small = omega arith; left_is = λ k. cell-of p.node p.copy g.left l ∙ sym (to-left.leads.means tt); right_is = λ k. absurd (let z : cells ≤ cell_of p.copy (get_or nodes p.node 0) = k in omega arith) })
         via-of (inr l) =
             let s : cell_of q.copy (get_or nodes q.node 0) < cells = cell-small q.copy (get_or nodes q.node 0) g.copy_right l in
-            (cells + cell_of q.copy (get_or nodes q.node 0), record { small = omega arith; left_is = λ k. absurd (let z : cells + cell_of q.copy (get_or nodes q.node 0) < cells = k in omega arith); right_is = λ k. ap (λ (i : ℕ). resolve (bindings g.work.ss nodes state g.n) (var (variable_of i))) (let e : cells + cell_of q.copy (get_or nodes q.node 0) - cells ≡ cell_of q.copy (get_or nodes q.node 0) = omega arith in e) ∙ (cell-of q.node q.copy g.right l ∙ sym to-right.leads.means) })
+            (cells + cell_of q.copy (get_or nodes q.node 0), record { small = omega arith; left_is = λ k. absurd (let z : cells + cell_of q.copy (get_or nodes q.node 0) < cells = k in omega arith); right_is = λ k. ap (λ (i : ℕ). resolve (bindings g.work.ss nodes state g.n) (var (variable_of i))) (let e : cells + cell_of q.copy (get_or nodes q.node 0) - cells ≡ cell_of q.copy (get_or nodes q.node 0) = omega arith in e) ∙ (cell-of q.node q.copy g.right l ∙ sym (to-right.leads.means tt)) })
+
+        via-by : (o : Bool) → ltb h big_pairs ≡ o → (v : ℕ) × (big_pairs ≤ h → OpenedByCell (bindings g.work.ss nodes state g.n) v (term_at g.work.ss nodes p1.node p1.copy) (term_at g.work.ss nodes q1.node q1.copy))
+        via-by true e = (0, λ l. absurd (let k : h < big_pairs = ltb-true h big_pairs e in omega arith))
+        via-by false e = let v = via-of (g.variable (ltb-false h big_pairs e)) in (v.0, λ l. v.1)
 
     pub cross-end : (after : List ℕ) (t : Turn) → ((k : Crossed nodes scratch h p1 q1) → PairTurned k after t) → Crosses g after t
     unfolding cross-settle crossing
@@ -109,19 +113,16 @@ module _ {nodes state scratch : List ℕ} {h : ℕ} {p q : At} (g : Crossable no
         let k : PairTurned cross-settle after t = s cross-settle in
         let b : List Binding = bindings g.work.ss nodes state g.n in
         let ls : RTerms = rows_of g.work.ss nodes (left_at scratch) h in
-        let rs : RTerms = rows_of g.work.ss nodes (right_at scratch) h in
-        let x : rows_size (bindings g.work.ss nodes state g.n) (rcons (term_at g.work.ss nodes p.node p.copy) (rows_of g.work.ss nodes (left_at scratch) h)) ≡ nodes_of (resolve (bindings g.work.ss nodes state g.n) (term_at g.work.ss nodes p.node p.copy)) + rows_size (bindings g.work.ss nodes state g.n) (rows_of g.work.ss nodes (left_at scratch) h) = size-cons (bindings g.work.ss nodes state g.n) (term_at g.work.ss nodes p.node p.copy) (rows_of g.work.ss nodes (left_at scratch) h) in
-        let y : rows_size (bindings g.work.ss nodes state g.n) (rcons (term_at g.work.ss nodes p1.node p1.copy) (rows_of g.work.ss nodes (left_at scratch) h)) ≡ nodes_of (resolve (bindings g.work.ss nodes state g.n) (term_at g.work.ss nodes p1.node p1.copy)) + rows_size (bindings g.work.ss nodes state g.n) (rows_of g.work.ss nodes (left_at scratch) h) = size-cons (bindings g.work.ss nodes state g.n) (term_at g.work.ss nodes p1.node p1.copy) (rows_of g.work.ss nodes (left_at scratch) h) in
-        let z : nodes_of (resolve (bindings g.work.ss nodes state g.n) (term_at g.work.ss nodes p1.node p1.copy)) ≡ nodes_of (resolve (bindings g.work.ss nodes state g.n) (term_at g.work.ss nodes p.node p.copy)) = ap nodes_of to-left.leads.means in (
+        let rs : RTerms = rows_of g.work.ss nodes (right_at scratch) h in (
           k.0,
           turns-alike (over g.work) (rcons (term_at g.work.ss nodes p.node p.copy) ls) (rcons (term_at g.work.ss nodes q.node q.copy) rs) (rcons (term_at g.work.ss nodes p1.node p1.copy) ls) (rcons (term_at g.work.ss nodes q1.node q1.copy) rs)
-              (2 * rows_size b (rcons (term_at g.work.ss nodes p.node p.copy) ls) + h) (2 * rows_size b (rcons (term_at g.work.ss nodes p1.node p1.copy) ls) + h) after t
-              (rows-first b (term_at g.work.ss nodes p.node p.copy) (term_at g.work.ss nodes q.node q.copy) (term_at g.work.ss nodes p1.node p1.copy) (term_at g.work.ss nodes q1.node q1.copy) ls rs (sym to-left.leads.means) (sym to-right.leads.means)) (omega arith) k.1,
+              after t
+              (rows-first b (term_at g.work.ss nodes p.node p.copy) (term_at g.work.ss nodes q.node q.copy) (term_at g.work.ss nodes p1.node p1.copy) (term_at g.work.ss nodes q1.node q1.copy) ls rs (sym (to-left.leads.means tt)) (sym (to-right.leads.means tt))) k.1,
         )
 
 -- ---- only short cuts change
 
-module _ {nodes state scratch : List ℕ} {h : ℕ} {p q : At} (g : Crossable nodes state scratch h p q) {after : List ℕ} (e : Eased (bindings g.work.ss nodes state g.n) scratch after) where
+module _ {nodes state scratch : List ℕ} {h : ℕ} {p q : At} (g : Crossable nodes state scratch h p q) {after : List ℕ} (e : Eased true (bindings g.work.ss nodes state g.n) scratch after) where
   tall : h ≤ pairs
   tall = height g.work.ss nodes (bindings g.work.ss nodes state g.n) g.work.top (left_at scratch) (right_at scratch) h g.work.stack
 
@@ -160,10 +161,8 @@ module _ {nodes state scratch : List ℕ} {h : ℕ} {p q : At} (g : Crossable no
   eased-crosses : (later : List ℕ) (t : Turn) → Crosses eased-crossable later t → Crosses g later t
   eased-crosses later t k = (
     marks-trans scratch after later (record { long = e.beside.long; words = λ j l. e.beside.low j (omega arith) }) k.0,
-    subst (λ (rs : RTerms). Turns (over g.work) (rcons (term_at g.work.ss nodes p.node p.copy) (rows_of g.work.ss nodes (left_at scratch) h)) (rcons (term_at g.work.ss nodes q.node q.copy) rs)
-        (2 * rows_size (bindings g.work.ss nodes state g.n) (rcons (term_at g.work.ss nodes p.node p.copy) (rows_of g.work.ss nodes (left_at scratch) h)) + h) later t) (rows_agree g.work.ss nodes (right_at scratch) (right_at after) h right-still)
-        (subst (λ (ls : RTerms). Turns (over g.work) (rcons (term_at g.work.ss nodes p.node p.copy) ls) (rcons (term_at g.work.ss nodes q.node q.copy) (rows_of g.work.ss nodes (right_at after) h))
-        (2 * rows_size (bindings g.work.ss nodes state g.n) (rcons (term_at g.work.ss nodes p.node p.copy) ls) + h) later t) (rows_agree g.work.ss nodes (left_at scratch) (left_at after) h left-still) k.1),
+    subst (λ (rs : RTerms). Turns (over g.work) (rcons (term_at g.work.ss nodes p.node p.copy) (rows_of g.work.ss nodes (left_at scratch) h)) (rcons (term_at g.work.ss nodes q.node q.copy) rs) later t) (rows_agree g.work.ss nodes (right_at scratch) (right_at after) h right-still)
+        (subst (λ (ls : RTerms). Turns (over g.work) (rcons (term_at g.work.ss nodes p.node p.copy) ls) (rcons (term_at g.work.ss nodes q.node q.copy) (rows_of g.work.ss nodes (right_at after) h)) later t) (rows_agree g.work.ss nodes (left_at scratch) (left_at after) h left-still) k.1),
   )
 
 module _ {nodes state scratch : List ℕ} {h : ℕ} {p q : At} (g : Crossable nodes state scratch h p q) {mid : List ℕ} {r : Ends} (f : (k : Both nodes state scratch p q) → BothFollowed k mid r) where
@@ -183,7 +182,7 @@ module _ {nodes state scratch : List ℕ} {h : ℕ} {p q : At} (g : Crossable no
 
 module _ {nodes state scratch : List ℕ} {n h p q : ℕ} (w : Work nodes state scratch n h) (some : 1 ≤ h)
     (m : StopsAt w.ss nodes (left_at scratch (h - 1)).at (end_of nodes (left_at scratch (h - 1))) (right_at scratch (h - 1)).at (end_of nodes (right_at scratch (h - 1))) p q)
-    (cl : WholesEqual w.ss nodes (bindings w.ss nodes state n) (left_at scratch) (right_at scratch) h no_term no_term) where
+    (variable : big_pairs ≤ h → (get_or nodes p 0 < first_name) ⊎ (get_or nodes q 0 < first_name)) (cl : WholesEqual w.ss nodes (bindings w.ss nodes state n) (left_at scratch) (right_at scratch) h no_term no_term) where
   abbrev pub b : List Binding
   b = bindings w.ss nodes state n
 
@@ -292,7 +291,7 @@ module _ {nodes state scratch : List ℕ} {n h p q : ℕ} (w : Work nodes state 
           ap (λ (s : Side). count (terms_at w.ss nodes s.at (end_of nodes s) i)) (left_below k u)
           ∙ (w.stack.same k o i j ∙ sym (ap (λ (s : Side). count (terms_at w.ss nodes s.at (end_of nodes s) j)) (right-below k u)))
 
-      via-at : (k : ℕ) → 1 ≤ k → k < h → (z : Bool) → eqb k (h - 1) ≡ z → OpenedByCell b (w.stack.via k) (whole_of w.ss nodes (left_at mid k)) (whole_of w.ss nodes (right_at mid k))
+      via-at : (k : ℕ) → big_pairs ≤ k → k < h → (z : Bool) → eqb k (h - 1) ≡ z → OpenedByCell b (w.stack.via k) (whole_of w.ss nodes (left_at mid k)) (whole_of w.ss nodes (right_at mid k))
       via-at k o i true z =
           let e : k ≡ h - 1 = eqb-true k (h - 1) z in
           subst⁻¹ (λ (j : ℕ). OpenedByCell b (w.stack.via j) (whole_of w.ss nodes (left_at mid j)) (whole_of w.ss nodes (right_at mid j))) e
@@ -339,7 +338,7 @@ module _ {nodes state scratch : List ℕ} {n h p q : ℕ} (w : Work nodes state 
         copy_right = w.stack.right.copy (h - 1) under;
         below = w.stack.left.below (h - 1) under;
         below_right = w.stack.right.below (h - 1) under;
-        variable = m.variable;
+        variable = variable;
         inside = λ o newer. subst⁻¹ (λ (s : Side). nodes_of (resolve (newer ++ b) (term_at w.ss nodes p l0.copy)) < nodes_of (resolve (newer ++ b) (whole_of w.ss nodes s))) left-top
             (let x : rows_size (newer ++ b) (terms_at w.ss nodes p (end_of nodes l0) l0.copy) ≤ rows_size (newer ++ b) (row_of w.ss nodes l0) = m.less (newer ++ b) l0.copy in
             let y : rows_size (newer ++ b) (terms_at w.ss nodes p (end_of nodes l0) l0.copy) ≡ nodes_of (resolve (newer ++ b) (term_at w.ss nodes p l0.copy)) + rows_size (newer ++ b) (terms_at w.ss nodes pa (end_of nodes l0) l0.copy) = left-size (newer ++ b) l0.copy in
@@ -373,29 +372,13 @@ module _ {nodes state scratch : List ℕ} {n h p q : ℕ} (w : Work nodes state 
   pub meet-turned : (after : List ℕ) (t : Turn) → ((g : Crossable nodes state mid h p0 q0) → Crosses g after t) → TurnGives w after t
   unfolding meet-crossable
   meet-turned after t k =
-      let s : Crosses meet-crossable after t = k meet-crossable in
-      let x : rows_size b (rcons (term_at w.ss nodes p l0.copy) (rows_of w.ss nodes (left_at mid) h)) ≡ rows_size b (terms_at w.ss nodes p (end_of nodes l0) l0.copy) + rows_size b (rows_of w.ss nodes (left_at scratch) (h - 1)) = ap (rows_size b) mid-left ∙ size-followed b (terms_at w.ss nodes p (end_of nodes l0) l0.copy) (rows_of w.ss nodes (left_at scratch) (h - 1)) in
-      let y : rows_size b (rows_of w.ss nodes (left_at scratch) h) ≡ rows_size b (row_of w.ss nodes l0) + rows_size b (rows_of w.ss nodes (left_at scratch) (h - 1)) = ap (rows_size b) top_left ∙ size-followed b (row_of w.ss nodes l0) (rows_of w.ss nodes (left_at scratch) (h - 1)) in
-      let z : rows_size b (terms_at w.ss nodes p (end_of nodes l0) l0.copy) ≤ rows_size b (row_of w.ss nodes l0) = m.less b l0.copy in (
+      let s : Crosses meet-crossable after t = k meet-crossable in (
         marks-trans scratch mid after (pair-marks scratch (h - 1) (record l0 { at = pa }) (record r0 { at = qa }) fits) s.0,
         turns-alike (over w) (rows_of w.ss nodes (left_at scratch) h) (rows_of w.ss nodes (right_at scratch) h) (rcons (term_at w.ss nodes p l0.copy) (rows_of w.ss nodes (left_at mid) h)) (rcons (term_at w.ss nodes q r0.copy) (rows_of w.ss nodes (right_at mid) h))
-            (2 * rows_size b (rows_of w.ss nodes (left_at scratch) h) + h) (2 * rows_size b (rcons (term_at w.ss nodes p l0.copy) (rows_of w.ss nodes (left_at mid) h)) + h) after t
+            after t
             (ap₂ (unify_rows b) top_left top_right ∙ (m.means b l0.copy r0.copy (rows_of w.ss nodes (left_at scratch) (h - 1)) (rows_of w.ss nodes (right_at scratch) (h - 1)) ∙ sym (ap₂ (unify_rows b) mid-left mid-right)))
-            (omega arith) s.1,
+            s.1,
       )
-
-  pub meet-inside : ((p + 1 < length nodes) × (q + 1 < length nodes)) × (((p + get_or nodes (p + 1) 0 < 2 ^ 32) × (q + get_or nodes (q + 1) 0 < 2 ^ 32)) × ((pair_of (h - 1) + pair_size ≤ length scratch) × ((l0.root < 2 ^ 32) × ((l0.copy < 2 ^ 32) × ((r0.root < 2 ^ 32) × (r0.copy < 2 ^ 32))))))
-  meet-inside =
-      let a : p + loaded_node ≤ length nodes = node-inside w.ss nodes p left-node in
-      let c : q + loaded_node ≤ length nodes = node-inside w.ss nodes q right-node in
-      let d : p + get_or nodes (p + 1) 0 ≤ length nodes = node_end w.ss nodes p left-node in
-      let e : q + get_or nodes (q + 1) 0 ≤ length nodes = node_end w.ss nodes q right-node in
-      let f : l0.root + loaded_node ≤ length nodes = node-inside w.ss nodes l0.root (w.stack.left.node (h - 1) under) in
-      let g : r0.root + loaded_node ≤ length nodes = node-inside w.ss nodes r0.root (w.stack.right.node (h - 1) under) in
-      let i : length nodes ≤ places = w.store.small in
-      let j : l0.copy < copies = w.stack.left.copy (h - 1) under in
-      let k : r0.copy < copies = w.stack.right.copy (h - 1) under in
-      ((omega arith, omega arith), ((omega arith, omega arith), (fits, (omega arith, (omega arith, (omega arith, omega arith))))))
 
 -- the same, over the sides and sizes as they are read
 module _ {nodes state scratch : List ℕ} {h : ℕ} {l r : Side} (g : Meetable nodes state scratch h l r) where
@@ -411,46 +394,20 @@ module _ {nodes state scratch : List ℕ} {h : ℕ} {l r : Side} (g : Meetable n
   abbrev pub r1 : Side
   r1 = right_at scratch (h - 1)
 
-  pub met-inside : ((p + 1 < length nodes) × (q + 1 < length nodes)) × (((p + get_or nodes (p + 1) 0 < 2 ^ 32) × (q + get_or nodes (q + 1) 0 < 2 ^ 32)) × ((pair_of (h - 1) + pair_size ≤ length scratch) × ((l.root < 2 ^ 32) × ((l.copy < 2 ^ 32) × ((r.root < 2 ^ 32) × (r.copy < 2 ^ 32))))))
-  met-inside = (
-    (meet-inside g.work g.some g.meets g.closes).0,
-    (
-      (meet-inside g.work g.some g.meets g.closes).1.0,
-      (
-        (meet-inside g.work g.some g.meets g.closes).1.1.0,
-        subst⁻¹ (λ (x : Side). (x.root < 2 ^ 32) × ((x.copy < 2 ^ 32) × ((r.root < 2 ^ 32) × (r.copy < 2 ^ 32)))) g.left_is
-            (subst⁻¹ (λ (y : Side). (l1.root < 2 ^ 32) × ((l1.copy < 2 ^ 32) × ((y.root < 2 ^ 32) × (y.copy < 2 ^ 32)))) g.right_is (meet-inside g.work g.some g.meets g.closes).1.1.1),
-      ),
-    ),
-  )
-
   module _ {s z : ℕ} (es : s ≡ get_or nodes (p + 1) 0) (ez : z ≡ get_or nodes (q + 1) 0) {mid1 : List ℕ} (e : mid1 ≡ pair_words scratch (h - 1) (record l { at = p + s }) (record r { at = q + z })) where
     mid-is : mid1 ≡ pair_words scratch (h - 1) (record l1 { at = p + get_or nodes (p + 1) 0 }) (record r1 { at = q + get_or nodes (q + 1) 0 })
     mid-is =
         e ∙ (ap₂ (λ (x y : Side). pair_words scratch (h - 1) (record x { at = p + s }) (record y { at = q + z })) g.left_is g.right_is
         ∙ ap₂ (λ (i j : ℕ). pair_words scratch (h - 1) (record l1 { at = p + i }) (record r1 { at = q + j })) es ez)
 
-    pub met-cross : Crossable nodes state mid1 h (record { node = p; copy = l.copy }) (record { node = q; copy = r.copy })
-    met-cross =
-        subst⁻¹ (λ (x : Side). Crossable nodes state mid1 h (record { node = p; copy = x.copy }) (record { node = q; copy = r.copy })) g.left_is
-        (subst⁻¹ (λ (y : Side). Crossable nodes state mid1 h (record { node = p; copy = l1.copy }) (record { node = q; copy = y.copy })) g.right_is
-        (subst⁻¹ (λ (k : List ℕ). Crossable nodes state k h (record { node = p; copy = l1.copy }) (record { node = q; copy = r1.copy })) mid-is (meet-crossable g.work g.some g.meets g.closes)))
-
     pub met_turned : (after : List ℕ) (t : Turn) → ((k : Crossable nodes state mid1 h (record { node = p; copy = l.copy }) (record { node = q; copy = r.copy })) → Crosses k after t) → TurnGives g.work after t
     met_turned after t f =
-        meet-turned g.work g.some g.meets g.closes after t
+        meet-turned g.work g.some g.meets g.variable g.closes after t
         (subst (λ (i : List ℕ). (k : Crossable nodes state i h (record { node = p; copy = l1.copy }) (record { node = q; copy = r1.copy })) → Crosses k after t) mid-is
         (subst (λ (y : Side). (k : Crossable nodes state mid1 h (record { node = p; copy = l1.copy }) (record { node = q; copy = y.copy })) → Crosses k after t) g.right_is
         (subst (λ (x : Side). (k : Crossable nodes state mid1 h (record { node = p; copy = x.copy }) (record { node = q; copy = r.copy })) → Crosses k after t) g.left_is f)))
 
 -- ---- one turn
-
-pub turn-room : {nodes state scratch : List ℕ} {h : ℕ} (g : Turnable nodes state scratch h) → (1 ≤ h) × ((h ≤ pairs) × (pair_of (h - 1) + pair_size ≤ length scratch))
-turn-room {nodes} {state} {scratch} {h} g =
-    let k : h ≤ pairs = height g.work.ss nodes (bindings g.work.ss nodes state g.n) g.work.top (left_at scratch) (right_at scratch) h g.work.stack in
-    let o : rows ≤ length scratch = g.work.roomy in
-    let s : 1 ≤ h = g.some in
-    (s, (k, omega arith))
 
 module _ {nodes state scratch : List ℕ} {h : ℕ} (g : Turnable nodes state scratch h) {l r : Side} (el : l ≡ left_at scratch (h - 1)) (er : r ≡ right_at scratch (h - 1)) where
   top-under : h - 1 < h
@@ -458,9 +415,6 @@ module _ {nodes state scratch : List ℕ} {h : ℕ} (g : Turnable nodes state sc
 
   left-root : Node g.work.ss nodes l.root
   left-root = subst⁻¹ (λ (x : Side). Node g.work.ss nodes x.root) el (g.work.stack.left.node (h - 1) top-under)
-
-  pub turn_inside : (l.root + 1 < length nodes) × (l.root + get_or nodes (l.root + 1) 0 ≤ length nodes)
-  turn_inside = let a : l.root + loaded_node ≤ length nodes = node-inside g.work.ss nodes l.root left-root in let c : l.root + get_or nodes (l.root + 1) 0 ≤ length nodes = node_end g.work.ss nodes l.root left-root in (omega arith, c)
 
   beside : RowsBeside g.work.ss nodes l.at (end_of nodes l) r.at (end_of nodes r)
   beside =
@@ -471,9 +425,6 @@ module _ {nodes state scratch : List ℕ} {h : ℕ} (g : Turnable nodes state sc
       }
 
   module _ {s : ℕ} (es : s ≡ get_or nodes (l.root + 1) 0) where
-    pub turn-walk : Walkable nodes l.at (l.root + s) r.at
-    turn-walk = subst⁻¹ (λ (k : ℕ). Walkable nodes l.at (l.root + k) r.at) es (record { ss = g.work.ss; f = end_of nodes r; beside = beside })
-
     module _ (o : RowsWalked) (k : (v : Walkable nodes l.at (l.root + s) r.at) → Walks v.ss nodes l.at (l.root + s) r.at v.f o) where
       walked : Walks g.work.ss nodes l.at (end_of nodes l) r.at (end_of nodes r) o
       walked = subst (λ (i : ℕ). (v : Walkable nodes l.at (l.root + i) r.at) → Walks v.ss nodes l.at (l.root + i) r.at v.f o) es k (record { ss = g.work.ss; f = end_of nodes r; beside = beside })
@@ -497,8 +448,8 @@ module _ {nodes state scratch : List ℕ} {h : ℕ} (g : Turnable nodes state sc
           let v : Walks g.work.ss nodes l.at (end_of nodes l) r.at (end_of nodes r) (Err Differ) = subst (Walks g.work.ss nodes l.at (end_of nodes l) r.at (end_of nodes r)) (e ∙ ap Err d) walked in
           (record { long = refl; words = λ j i. refl }, ap₂ (unify_rows (bindings g.work.ss nodes state g.n)) top-rows top-rows-right ∙ v (bindings g.work.ss nodes state g.n) l.copy r.copy (rows_of g.work.ss nodes (left_at scratch) (h - 1)) (rows_of g.work.ss nodes (right_at scratch) (h - 1)))
 
-      pub turn-met : {p q : ℕ} {f : WalkStop} → o ≡ Err f → f ≡ Met p q → Meetable nodes state scratch h (record l { at = p }) (record r { at = q })
-      turn-met {p} {q} e d =
+      pub turn-met : {p q : ℕ} {f : WalkStop} → MetVariable nodes h o → o ≡ Err f → f ≡ Met p q → Meetable nodes state scratch h (record l { at = p }) (record r { at = q })
+      turn-met {p} {q} kv e d =
           record {
             n = g.n;
             work = g.work;
@@ -508,12 +459,13 @@ module _ {nodes state scratch : List ℕ} {h : ℕ} (g : Turnable nodes state sc
             meets = subst (λ (y : Side). StopsAt g.work.ss nodes (left_at scratch (h - 1)).at (end_of nodes (left_at scratch (h - 1))) y.at (end_of nodes y) p q) er
                 (subst (λ (x : Side). StopsAt g.work.ss nodes x.at (end_of nodes x) r.at (end_of nodes r) p q) el
                 (subst (Walks g.work.ss nodes l.at (end_of nodes l) r.at (end_of nodes r)) (e ∙ ap Err d) walked));
+            variable = subst (MetVariable nodes h) (e ∙ ap Err d) kv;
             closes = g.closes;
           }
 
-      pub turn_end : {p q : ℕ} {f : WalkStop} (e : o ≡ Err f) (d : f ≡ Met p q) (after : List ℕ) (t : Turn) → ((v : Meetable nodes state scratch h (record l { at = p }) (record r { at = q })) → TurnGives v.work after t) → TurnGives g.work after t
+      pub turn_end : {p q : ℕ} {f : WalkStop} (kv : MetVariable nodes h o) (e : o ≡ Err f) (d : f ≡ Met p q) (after : List ℕ) (t : Turn) → ((v : Meetable nodes state scratch h (record l { at = p }) (record r { at = q })) → TurnGives v.work after t) → TurnGives g.work after t
       unfolding turn-met
-      turn_end e d after t k = k (turn-met e d)
+      turn_end kv e d after t k = k (turn-met kv e d)
 
 -- ---- the top pair done
 
@@ -551,13 +503,6 @@ module _ {scratch : List ℕ} {h : ℕ} {l r : Side} (g : Passable scratch h l r
   right-copy : r.copy < copies
   right-copy = subst⁻¹ (λ (x : Side). x.copy < copies) g.right_is (g.work.stack.right.copy (h - 1) top-is)
 
-  pub pass-small : ((l.root < places) × (r.root < places)) × (((l.copy < copies) × (r.copy < copies)) × ((rows ≤ length scratch) × (1 ≤ h)))
-  pass-small =
-      let a : l.root + loaded_node ≤ length g.nodes = node-inside g.work.ss g.nodes l.root (subst⁻¹ (λ (x : Side). Node g.work.ss g.nodes x.root) g.left_is (g.work.stack.left.node (h - 1) top-is)) in
-      let b1 : r.root + loaded_node ≤ length g.nodes = node-inside g.work.ss g.nodes r.root (subst⁻¹ (λ (x : Side). Node g.work.ss g.nodes x.root) g.right_is (g.work.stack.right.node (h - 1) top-is)) in
-      let s : length g.nodes ≤ places = g.work.store.small in
-      ((omega arith, omega arith), ((left-copy, right-copy), (g.work.roomy, g.some)))
-
   words-equal : resolve (bindings g.work.ss g.nodes g.state g.n) (value_of g.work.ss g.nodes (word_of l.root l.copy)) ≡ resolve (bindings g.work.ss g.nodes g.state g.n) (value_of g.work.ss g.nodes (word_of r.root r.copy))
   words-equal =
       ap (resolve (bindings g.work.ss g.nodes g.state g.n)) (value-word g.work.ss g.nodes l.root l.copy left-copy ∙ ap (whole_of g.work.ss g.nodes) g.left_is)
@@ -593,8 +538,6 @@ module _ {scratch : List ℕ} {h : ℕ} {l r : Side} (g : Passable scratch h l r
       record {
         stack = stack-agrees g.work.ss g.nodes bs g.work.top (left_at scratch) (right_at scratch) (left_at after) (right_at after) (h - 1) left-under right-under (stack-less g.work.ss g.nodes bs g.work.top (left_at scratch) (right_at scratch) h (h - 1) (omega arith) g.work.stack);
         means = ap₂ (unify_rows bs) rows_left rows_right ∙ g.walks bs l.copy r.copy (rows_of g.work.ss g.nodes (left_at after) (h - 1)) (rows_of g.work.ss g.nodes (right_at after) (h - 1));
-        less = (let y : rows_size bs (rows_of g.work.ss g.nodes (left_at scratch) h) ≡ rows_size bs (row_of g.work.ss g.nodes l) + rows_size bs (rows_of g.work.ss g.nodes (left_at after) (h - 1)) = ap (rows_size bs) rows_left ∙ size-followed bs (row_of g.work.ss g.nodes l) (rows_of g.work.ss g.nodes (left_at after) (h - 1)) in
-            let q : 1 ≤ h = g.some in omega arith);
         memo = memo-remembers g.work.ss g.nodes bs scratch g.work.memo after (word_of l.root l.copy) (word_of r.root r.copy) k words-equal;
         closes = closes-agree g.work.ss g.nodes bs (left_at scratch) (right_at scratch) (left_at after) (right_at after) (h - 1) no_term no_term left-under right-under
             (closes-less g.work.ss g.nodes bs (left_at scratch) (right_at scratch) (h - 1) (rows-done-is bs) (subst⁻¹ (λ (i : ℕ). WholesEqual g.work.ss g.nodes bs (left_at scratch) (right_at scratch) i no_term no_term) back-up g.closes));

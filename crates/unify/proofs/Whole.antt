@@ -3,12 +3,12 @@ use Prim.Native.Nat.{ℕ, ◌+◌, ◌≤◌, ◌<◌, ◌^◌}
 use native.Mathlib.Omega.{arith}
 use mathlib.Core.Path.{◌≡◌, refl, sym, ap, ap₂, ◌∙◌, subst, subst⁻¹}
 use mathlib.Core.List.{List, [], ◌++◌}
-use mathlib.Core.Logic.{inl, inr}
+use mathlib.Core.Logic.{inr}
 use lib.ListN.{length, get_or, set, length-set}
 use lib.Seq.{get_or-set_same, get_or-set_other}
 use Rattle.machine.specs.Substitution.{RTerms, app, rnil, rcons, Binding, resolve}
 use Rattle.machine.specs.Unification.{unify}
-use Rattle.run_layout.specs.Regions.{copies, places, order, stack, pair_of, order_word, bounds_word, cuts_word, memo, rows, loaded_node, pair_size}
+use Rattle.run_layout.specs.Regions.{copies, places, pair_of, cuts_word, memo, rows, loaded_node, pair_size}
 use Rattle.run_layout.specs.Nodes.{Symbol, Node, Row, term_at, terms_at, followed, count}
 use Rattle.run_layout.specs.State.{bindings}
 use Rattle.run_layout.proofs.Nodes.{node-inside, row_one, row-one-is, term-at}
@@ -18,9 +18,6 @@ use Rattle.bindings.specs.Scratch.{left_at, right_at, pair_words, SameMarks}
 use Rattle.run_layout.specs.declared.terms.At.{At}
 use Rattle.bindings.specs.declared.stack.Side.{Side}
 use Rattle.bindings.proofs.Remembering.{memo-none}
-use Rattle.bindings.specs.Orders.{ordered, bounds_made}
-use Rattle.bindings.proofs.Lists.{ordered-none}
-use Rattle.unify.specs.Checks.{Begun}
 use Rattle.unify.specs.Rows.{unify_rows}
 use Rattle.unify.specs.Stacks.{only_row, end_of, whole_of, row_of, rows_of, StackSide, Stack, no_term, WholesEqual}
 use Rattle.unify.specs.Turns.{Solvable, Solved, Unifiable, UnifyGives}
@@ -56,25 +53,18 @@ module _ {nodes state scratch : List ℕ} {p q : At} {n : ℕ} (g : Unifiable no
   pub unify-forget : memo < length scratch
   unify-forget = let r : rows ≤ length scratch = g.roomy in omega arith
 
-  pub unify-begin : {s : List ℕ} → s ≡ emptied → rows ≤ length s
-  unify-begin e = subst⁻¹ (λ (x : List ℕ). rows ≤ length x) e (let r : rows ≤ length scratch = g.roomy in let l : length emptied ≡ length scratch = emptied-long in omega arith)
-
-  -- and then the order
-  module _ {s0 blank : List ℕ} (e0 : s0 ≡ emptied) (begun : Begun s0 blank) where
+  module _ {blank : List ℕ} (e0 : blank ≡ emptied) where
     blank-long : length blank ≡ length scratch
-    blank-long = begun.same.long ∙ (ap length e0 ∙ emptied-long)
+    blank-long = ap length e0 ∙ emptied-long
 
-    blank-high : (j : ℕ) → stack ≤ j → get_or blank j 0 ≡ get_or emptied j 0
-    blank-high j l = begun.same.high j l ∙ ap (λ (x : List ℕ). get_or x j 0) e0
-
-    blank-low : (j : ℕ) → j < order → get_or blank j 0 ≡ get_or emptied j 0
-    blank-low j l = begun.same.low j l ∙ ap (λ (x : List ℕ). get_or x j 0) e0
+    blank-is : (j : ℕ) → get_or blank j 0 ≡ get_or emptied j 0
+    blank-is j = ap (λ (x : List ℕ). get_or x j 0) e0
 
     pub unify-room : (pair_of 0 + pair_size ≤ length blank) × (((p.node < 2 ^ 32) × ((p.node < 2 ^ 32) × (p.copy < 2 ^ 32))) × ((q.node < 2 ^ 32) × ((q.node < 2 ^ 32) × (q.copy < 2 ^ 32))))
     unify-room =
         let a : p.node + loaded_node ≤ length nodes = node-inside g.ss nodes p.node g.left in
         let b : q.node + loaded_node ≤ length nodes = node-inside g.ss nodes q.node g.right in
-        let s : length nodes ≤ places = g.store.small in
+        let s : length nodes ≤ places = g.store.raw.small in
         let r : rows ≤ length scratch = g.roomy in
         let e : length blank ≡ length scratch = blank-long in
         let x : p.copy < copies = g.copy in
@@ -106,19 +96,13 @@ module _ {nodes state scratch : List ℕ} {p q : At} {n : ℕ} (g : Unifiable no
         }
 
     no_terms : classes_made mid ≡ 0
-    no_terms = pair-others blank 0 (only_row p) (only_row q) unify-room.0 memo (inr (omega arith)) ∙ (blank-high memo (omega arith) ∙ (get_or-set_other (set scratch memo 0) cuts_word memo 0 0 (λ e. omega arith) ∙ get_or-set_same scratch memo 0 0 unify-forget))
+    no_terms = pair-others blank 0 (only_row p) (only_row q) unify-room.0 memo (inr (omega arith)) ∙ (blank-is memo ∙ (get_or-set_other (set scratch memo 0) cuts_word memo 0 0 (λ e. omega arith) ∙ get_or-set_same scratch memo 0 0 unify-forget))
 
     no-cuts : cuts_made mid ≡ 0
     no-cuts =
         let r : rows ≤ length scratch = g.roomy in
         let e : length (set scratch memo 0) ≡ length scratch = length-set scratch memo 0 in
-        pair-others blank 0 (only_row p) (only_row q) unify-room.0 cuts_word (inr (omega arith)) ∙ (blank-high cuts_word (omega arith) ∙ get_or-set_same (set scratch memo 0) cuts_word 0 0 (omega arith))
-
-    no_places : ordered mid ≡ 0
-    no_places = pair-others blank 0 (only_row p) (only_row q) unify-room.0 order_word (inl (omega arith)) ∙ begun.no_places
-
-    no_bounds : bounds_made mid ≡ 0
-    no_bounds = pair-others blank 0 (only_row p) (only_row q) unify-room.0 bounds_word (inl (omega arith)) ∙ begun.no_bounds
+        pair-others blank 0 (only_row p) (only_row q) unify-room.0 cuts_word (inr (omega arith)) ∙ (blank-is cuts_word ∙ get_or-set_same (set scratch memo 0) cuts_word 0 0 (omega arith))
 
     -- the first pair's rows are its two terms
     first-closes : WholesEqual g.ss nodes (bindings g.ss nodes state n) (left_at mid) (right_at mid) 1 no_term no_term
@@ -140,8 +124,7 @@ module _ {nodes state scratch : List ℕ} {p q : At} {n : ℕ} (g : Unifiable no
         record {
           work = record { ss = g.ss; top = g.top; store = g.store; within = g.within; roomy = omega arith; stack = first-stack; memo = memo-none g.ss nodes (bindings g.ss nodes state n) mid no_terms no-cuts };
           closes = first-closes;
-          clean = record { long = omega arith; zero = λ y l. m.words y (omega arith) ∙ (blank-low y (omega arith) ∙ (get_or-set_other (set scratch memo 0) cuts_word y 0 0 (λ e2. omega arith) ∙ (get_or-set_other scratch memo y 0 0 (λ e2. omega arith) ∙ g.clean.zero y l))) };
-          order = ordered-none g.ss nodes state mid no_places no_bounds;
+          clean = record { long = omega arith; zero = λ y l. m.words y (omega arith) ∙ (blank-is y ∙ (get_or-set_other (set scratch memo 0) cuts_word y 0 0 (λ e2. omega arith) ∙ (get_or-set_other scratch memo y 0 0 (λ e2. omega arith) ∙ g.clean.zero y l))) };
         }
 
     pub unify-solvable : {s : List ℕ} → s ≡ mid → Solvable nodes state s n

@@ -2,4 +2,5 @@ pub mod Rows
 pub mod Walks
 pub mod Stacks
 pub mod Turns
-pub mod Checks
+pub mod Shapes
+pub mod Cycles

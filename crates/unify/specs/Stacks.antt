@@ -1,7 +1,7 @@
 -- The work stack: pairs of rows, the first pair at the bottom. What its words mean, and the invariant that bounds its height.
 use Rattle.std.specs.Prelude.{ℕ, zero, suc, ◌+◌, ◌-◌, ◌*◌, ◌≤◌, ◌<◌, ◌≡◌, List, [], ◌++◌, get_or}
 use Rattle.machine.specs.Substitution.{RTerm, RTerms, var, app, rnil, Binding, resolve}
-use Rattle.run_layout.specs.Regions.{copies, cells, loaded_node}
+use Rattle.run_layout.specs.Regions.{copies, cells, big_pairs, loaded_node}
 use Rattle.run_layout.specs.Nodes.{Symbol, Node, Row, term_at, terms_at, followed, count}
 use Rattle.run_layout.specs.State.{variable_of}
 use Rattle.run_layout.specs.declared.terms.At.{At}
@@ -46,7 +46,7 @@ pub record StackSide (ss : List Symbol) (nodes : List ℕ) (b : List Binding) (t
   pub down : (k : ℕ) → 1 ≤ k → k + 1 < h → (newer : List Binding) → nodes_of (resolve (newer ++ b) (whole_of ss nodes (s (k + 1))))
       < nodes_of (resolve (newer ++ b) (whole_of ss nodes (s k)))
 
--- A pair was opened by way of a bound cell: below 16,384 one that stands for the left whole, else one for the right.
+-- A pair of the higher stack was opened by way of a bound cell: below 16,384 one that stands for the left whole, else one for the right.
 pub record OpenedByCell (b : List Binding) (v : ℕ) (left right : RTerm) : Type 0 where
   pub small : v < 2 * cells
   pub left_is : v < cells → resolve b (var (variable_of v)) ≡ resolve b left
@@ -57,7 +57,7 @@ pub record Stack (ss : List Symbol) (nodes : List ℕ) (b : List Binding) (top :
   pub right : StackSide ss nodes b top r h
   pub same : (k : ℕ) → k < h → (c d : ℕ) → count (terms_at ss nodes (l k).at (end_of nodes (l k)) c) ≡ count (terms_at ss nodes (r k).at (end_of nodes (r k)) d)
   pub via : ℕ → ℕ
-  pub vias : (k : ℕ) → 1 ≤ k → k < h → OpenedByCell b (via k) (whole_of ss nodes (l k)) (whole_of ss nodes (r k))
+  pub vias : (k : ℕ) → big_pairs ≤ k → k < h → OpenedByCell b (via k) (whole_of ss nodes (l k)) (whole_of ss nodes (r k))
 
 -- ---- what is done makes the wholes equal
 

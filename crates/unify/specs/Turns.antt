@@ -5,16 +5,15 @@ use Rattle.syntax.specs.Words.{first_name}
 use Rattle.syntax.specs.Terms.{Term}
 use Rattle.machine.specs.Substitution.{RTerm, RTerms, rcons, copied, occurs, Binding, resolve}
 use Rattle.machine.specs.Unification.{unify}
-use Rattle.run_layout.specs.Regions.{copies, copy_cells, cells}
+use Rattle.run_layout.specs.Regions.{copies, copy_cells, cells, big_pairs}
 use Rattle.run_layout.specs.Nodes.{Symbol, TermLoaded, Node, term_at}
 use Rattle.run_layout.specs.State.{cell_of, variable_of, cell_at, bindings, Store, WithinCopies, BindingsKept}
-use Rattle.bindings.specs.Queues.{Clean}
+use Rattle.bindings.specs.Plain.{Clean}
 use Rattle.bindings.specs.Memos.{Memo}
 use Rattle.bindings.specs.Scratch.{left_at, right_at, SameMarks, Roomy}
 use Rattle.run_layout.specs.declared.terms.At.{At}
 use Rattle.bindings.specs.declared.stack.Side.{Side}
-use Rattle.bindings.specs.Orders.{Ordered}
-use Rattle.unify.specs.Rows.{unify_rows, nodes_of, rows_size}
+use Rattle.unify.specs.Rows.{unify_rows, nodes_of}
 use Rattle.unify.specs.Walks.{StopsAt, Walks}
 use Rattle.unify.specs.Stacks.{end_of, whole_of, rows_of, OpenedByCell, Stack, no_term, WholesEqual}
 use Rattle.unify.specs.declared.solve.TurnStop.{TurnStop}
@@ -54,11 +53,10 @@ Inside o h top a = 2 ≤ h → (newer : List Binding) → nodes_of (resolve (new
 abbrev pub ClosesWith : UnifiedOver → List ℕ → ℕ → RTerm → RTerm → Type 0
 ClosesWith o scratch h left right = WholesEqual o.ss o.nodes (bound o) (left_at scratch) (right_at scratch) h left right
 
--- The rows to be unified are now those of a stack of height k, and less is left.
-pub record RowsLeft (o : UnifiedOver) (ls rs : RTerms) (size : ℕ) (after : List ℕ) (k : ℕ) : Type 0 where
+-- The rows to be unified are now those of a stack of height k.
+pub record RowsLeft (o : UnifiedOver) (ls rs : RTerms) (after : List ℕ) (k : ℕ) : Type 0 where
   pub stack : Stack o.ss o.nodes (bound o) o.top (left_at after) (right_at after) k
   pub means : unify_rows (bound o) ls rs ≡ unify_rows (bound o) (rows_of o.ss o.nodes (left_at after) k) (rows_of o.ss o.nodes (right_at after) k)
-  pub less : 2 * rows_size (bound o) (rows_of o.ss o.nodes (left_at after) k) + k < size
   pub memo : Memo o.ss o.nodes (bound o) after
   pub closes : ClosesWith o after k no_term no_term
 
@@ -85,15 +83,14 @@ pub record BindingDue (o : UnifiedOver) (ls rs : RTerms) (after : List ℕ) (k x
 abbrev pub Turn : Type 0
 Turn = Result ℕ TurnStop
 
-abbrev pub Turns : UnifiedOver → RTerms → RTerms → ℕ → List ℕ → Turn → Type 0
-Turns o ls rs size after (Ok k) = RowsLeft o ls rs size after k
-Turns o ls rs size after (Err Clash) = unify_rows (bound o) ls rs ≡ none
-Turns o ls rs size after (Err (Bind k x a)) = BindingDue o ls rs after k x a
+abbrev pub Turns : UnifiedOver → RTerms → RTerms → List ℕ → Turn → Type 0
+Turns o ls rs after (Ok k) = RowsLeft o ls rs after k
+Turns o ls rs after (Err Clash) = unify_rows (bound o) ls rs ≡ none
+Turns o ls rs after (Err (Bind k x a)) = BindingDue o ls rs after k x a
 
 -- a turn with these rows to be unified, of a stack of height h
 abbrev pub RowsTurned : {nodes state before : List ℕ} {n h : ℕ} → Work nodes state before n h → RTerms → RTerms → List ℕ → Turn → Type 0
-RowsTurned {nodes} {state} {before} {n} {h} w ls rs after t =
-    SameMarks before after × Turns (over w) ls rs (2 * rows_size (bound (over w)) ls + h) after t
+RowsTurned {nodes} {state} {before} {n} {h} w ls rs after t = SameMarks before after × Turns (over w) ls rs after t
 
 -- what `turn` promises of n bindings and a stack of height h
 abbrev pub TurnGives : {nodes state before : List ℕ} {n h : ℕ} → Work nodes state before n h → List ℕ → Turn → Type 0
@@ -111,7 +108,7 @@ pub record Dereferenced (ss : List Symbol) (nodes state : List ℕ) (top : ℕ) 
   pub below : a.copy ≤ top
   pub stops : get_or nodes a.node 0 < first_name → cell_at state (cell_of a.copy (get_or nodes a.node 0)) ≡ 0
 
--- Two dereferenced terms before the rows of a stack: at least one was reached by way of a bound cell, and from the second pair on both stand
+-- Two dereferenced terms before the rows of a stack: if it is high, at least one was reached by way of a bound cell, and from the second pair on both stand
 -- strictly inside the wholes of the top pair.
 pub record Crossed (nodes scratch : List ℕ) (h : ℕ) (p q : At) : Type 0 where
   pub state : List ℕ
@@ -121,7 +118,7 @@ pub record Crossed (nodes scratch : List ℕ) (h : ℕ) (p q : At) : Type 0 wher
   pub left : Dereferenced work.ss nodes state work.top p
   pub right : Dereferenced work.ss nodes state work.top q
   pub via : ℕ
-  pub via_is : get_or nodes p.node 0 ≡ get_or nodes q.node 0 → first_name ≤ get_or nodes p.node 0
+  pub via_is : big_pairs ≤ h → get_or nodes p.node 0 ≡ get_or nodes q.node 0 → first_name ≤ get_or nodes p.node 0
       → OpenedByCell (bindings work.ss nodes state n) via (term_at work.ss nodes p.node p.copy) (term_at work.ss nodes q.node q.copy)
   pub inside : Inside (over work) h (left_at scratch (h - 1)) p
   pub inside_right : Inside (over work) h (right_at scratch (h - 1)) q
@@ -137,7 +134,7 @@ pub record Openable (scratch : List ℕ) (h : ℕ) (p q : At) : Type 0 where
 abbrev pub PairTurned : {nodes before : List ℕ} {h : ℕ} {p q : At} → Crossed nodes before h p q → List ℕ → Turn → Type 0
 PairTurned {nodes} {before} {h} {p} {q} g after t = TermsTurned g.work p q after t
 
--- Two terms before the rows of a stack, a variable on at least one side; from the second pair on both stand strictly inside the wholes of the
+-- Two terms before the rows of a stack, a variable on at least one side if it is high; from the second pair on both stand strictly inside the wholes of the
 -- top pair.
 pub record Crossable (nodes state scratch : List ℕ) (h : ℕ) (p q : At) : Type 0 where
   pub n : ℕ
@@ -149,7 +146,7 @@ pub record Crossable (nodes state scratch : List ℕ) (h : ℕ) (p q : At) : Typ
   pub copy_right : q.copy < copies
   pub below : p.copy ≤ work.top
   pub below_right : q.copy ≤ work.top
-  pub variable : (get_or nodes p.node 0 < first_name) ⊎ (get_or nodes q.node 0 < first_name)
+  pub variable : big_pairs ≤ h → (get_or nodes p.node 0 < first_name) ⊎ (get_or nodes q.node 0 < first_name)
   pub inside : Inside (over work) h (left_at scratch (h - 1)) p
   pub inside_right : Inside (over work) h (right_at scratch (h - 1)) q
   pub closes : ClosesWith (over work) scratch h (term_at work.ss nodes p.node p.copy) (term_at work.ss nodes q.node q.copy)
@@ -157,7 +154,7 @@ pub record Crossable (nodes state scratch : List ℕ) (h : ℕ) (p q : At) : Typ
 abbrev pub Crosses : {nodes state before : List ℕ} {h : ℕ} {p q : At} → Crossable nodes state before h p q → List ℕ → Turn → Type 0
 Crosses {nodes} {state} {before} {h} {p} {q} g after t = TermsTurned g.work p q after t
 
--- The top pair of a stack, its rows moved on to where they first have a variable on a side.
+-- The top pair of a stack, its rows moved on to where they first have a variable on a side, or large terms.
 pub record Meetable (nodes state scratch : List ℕ) (h : ℕ) (l r : Side) : Type 0 where
   pub n : ℕ
   pub work : Work nodes state scratch n h
@@ -166,6 +163,7 @@ pub record Meetable (nodes state scratch : List ℕ) (h : ℕ) (l r : Side) : Ty
   pub right_is : r ≡ record (right_at scratch (h - 1)) { at = r.at }
   pub meets : StopsAt work.ss nodes (left_at scratch (h - 1)).at (end_of nodes (left_at scratch (h - 1)))
       (right_at scratch (h - 1)).at (end_of nodes (right_at scratch (h - 1))) l.at r.at
+  pub variable : big_pairs ≤ h → (get_or nodes l.at 0 < first_name) ⊎ (get_or nodes r.at 0 < first_name)
   pub closes : ClosesWith (over work) scratch h no_term no_term
 
 -- The top pair of a stack, what is left of whose rows is the same.
@@ -187,26 +185,6 @@ pub record Turnable (nodes state scratch : List ℕ) (h : ℕ) : Type 0 where
   pub some : 1 ≤ h
   pub closes : ClosesWith (over work) scratch h no_term no_term
 
--- n bindings, and a stack
-pub record ReadyToUnify (nodes state scratch : List ℕ) (n h : ℕ) : Type 0 where
-  pub work : Work nodes state scratch n h
-  pub closes : ClosesWith (over work) scratch h no_term no_term
-
--- ---- turns until something is to be bound
-
--- What turns come to: the stack is empty, or a stop.
-abbrev pub TurnsTaken : Type 0
-TurnsTaken = Result (Unit {0}) TurnStop
-
-abbrev pub LoopGives : UnifiedOver → RTerms → RTerms → List ℕ → TurnsTaken → Type 0
-LoopGives o ls rs after (Ok u) = unify_rows (bound o) ls rs ≡ some (bound o)
-LoopGives o ls rs after (Err Clash) = unify_rows (bound o) ls rs ≡ none
-LoopGives o ls rs after (Err (Bind k x a)) = BindingDue o ls rs after k x a
-
-abbrev pub Advanced : {nodes state before : List ℕ} {n h : ℕ} → Work nodes state before n h → List ℕ → TurnsTaken → Type 0
-Advanced {nodes} {state} {before} {n} {h} w after t =
-    SameMarks before after × LoopGives (over w) (rows_of w.ss nodes (left_at before) h) (rows_of w.ss nodes (right_at before) h) after t
-
 -- ---- the whole
 
 -- what is answered: these bindings, or none
@@ -214,12 +192,11 @@ unfoldable pub answered : Bool → List Binding → Option (List Binding)
 answered true b = some b
 answered false b = none
 
--- n bindings, one pair on the stack, no cell marked, and an order of cells
+-- n bindings, one pair on the stack, no cell marked
 pub record Solvable (nodes state scratch : List ℕ) (n : ℕ) : Type 0 where
   pub work : Work nodes state scratch n 1
   pub closes : ClosesWith (over work) scratch 1 no_term no_term
   pub clean : Clean scratch
-  pub order : Ordered work.ss nodes state scratch
 
 pub record Solved {nodes before scratch : List ℕ} {n : ℕ} (g : Solvable nodes before scratch n) (after later : List ℕ) (r : UnifyAnswer) : Type 0 where
   pub grows : n ≤ r.trail

@@ -1,190 +1,284 @@
-// Whether a binding closes a cycle. Where the order of cells shows that it does not, nothing is searched. A search is exact; when searches have looked at many
-// words, what the unification will bind is guessed, and the order is made anew from the guess, so that it serves for the bindings to come.
+// Whether bindings close a cycle: one depth-first search over the cells that are reached from the pending ones. A cell that is entered is marked as open and put
+// on the path, with the place reached in its term; when all variables of the term are done, so is the cell. A bound variable whose cell is open closes a cycle.
+// The marks stand where those of cells do, and the cells entered are listed as the trail lists bound cells, so that `undo` unmarks them.
 
-ghost use Rattle.std.specs.Prelude.{◌+◌, ◌*◌, ◌≤◌, ◌<◌};
-ghost use Rattle.run_layout.specs.Regions.{cells, pairs};
-ghost use Rattle.bindings.specs.Queues.{Closed};
+ghost use Rattle.std.specs.Prelude.{◌⊎◌, ◌≡◌, ◌+◌, ◌^◌, ◌≤◌, ◌<◌, true, false, length, get_or};
+ghost use Rattle.syntax.specs.Words.{first_name};
+ghost use Rattle.run_layout.specs.Regions.{copies, cells, slots, slot_count};
+ghost use Rattle.run_layout.specs.State.{cell_of, cell_at, node_of};
+ghost use Rattle.bindings.specs.Cells.{StoredTerm};
+ghost use Rattle.bindings.specs.Plain.{Plain};
 ghost use Rattle.bindings.specs.Scratch.{Roomy};
-ghost use Rattle.bindings.specs.Orders.{Boundable};
-ghost use Rattle.unify.specs.Checks.{most_counted, Begun, Purse, Shown, Guardable, Missing, Redone, Renewed, Tried, Guarded};
+ghost use Rattle.unify.specs.Cycles.{LeafCell, Shallow, term_end, CellSettled, LeadsOn, Lookable, Found, DoneWith, FirstPlace, Searching, Enterable, EnteredCell, SearchTurned};
+ghost use Rattle.unify.specs.Cycles.{SearchStopped, from_start, SearchEnded, Testable, AllSearched, Tested};
 
-use bindings::memos::forget;
-use bindings::occurrence::{is_plain, occurs};
-use bindings::orders::{drop_from, forget_order, is_free, order_cells};
-use lookahead::tables::guesses::Tables;
-use lookahead::{PROPOSED, look_ahead};
-use run_layout::terms::At;
-use run_layout::{CELLS, ORDER, ORDER_PLACES, ORDER_WORD, PURSE_SIZE, PURSE_WORD};
-use words::tables::{put, word_at};
+use bindings::occurrence::{is_constant, is_plain};
+use bindings::store::{bind, undo};
+use run_layout::terms::{At, unpack};
+use run_layout::{
+    CELLS, COPIES, LOADED_NODE, PATH, PATH_SIZE, PENDING, SLOT_COUNT, SLOTS, cell_of,
+};
+use syntax::FIRST_NAME;
+use words::tables::{put, size_at, word_at};
 
-// So many words may be looked at before the order is made for the first time.
-const FIRST_PURSE: usize = 512;
+// The mark of a cell whose term is being looked at, as a cell's word: any node in copy 0.
+const OPEN: At = At { node: 0, copy: 0 };
 
-// The most words that are counted.
-const MOST_COUNTED: usize = 1048576;
+// The mark of a cell from which no cycle can be reached, as a word.
+const DONE: usize = 2;
 
-// A guess may take so many turns for each word that was looked at.
-const TURNS: usize = 8;
+// The words of a node, in each copy, as cells' words.
+const TERM_WORDS: usize = LOADED_NODE * COPIES;
 
-// A number, or the most that is counted.
-fn counted(n: usize) -> usize
-    ensures { result ≤ most_counted }
-{
-    n.min(MOST_COUNTED)
+// How far apart the slots of a node's copies are; odd, so that no two of them are the same.
+const SPREAD: usize = 97;
+
+// The words of a term that is looked at, in place of a search.
+const MOST_SHALLOW: usize = 16 * LOADED_NODE;
+
+/// How far a search has come: the cells on its path, and the cells entered.
+#[derive(Clone, Copy)]
+pub struct Progress {
+    pub height: usize,
+    pub entered: usize,
 }
 
-// A purse of n words.
-fn fill_purse(scratch: &mut [u32], n: usize)
-    requires { (Roomy scratch.old) × (n ≤ 4 * most_counted) }
-    ensures { Purse scratch.old scratch.new }
+// Whether a name stands at a place, or a variable, not that of cell x, that is unbound or bound to a constant.
+fn is_leaf(nodes: &[u32], state: &[u32], x: usize, here: At) -> bool
+    requires { StoredTerm nodes.now state.now here.node here.copy }
+    ensures { result ≡ true → get_or nodes.now here.node 0 < first_name
+        → LeafCell nodes.now state.now x (cell_of here.copy (get_or nodes.now here.node 0)) }
 {
-    put(scratch, PURSE_WORD, n);
-    put(scratch, PURSE_SIZE, n);
-}
-
-// A purse is spent by a search that looked at more words than it had: what was looked at is its size from now on.
-fn empty_purse(scratch: &mut [u32], cost: usize)
-    requires { Roomy scratch.old }
-    ensures { Purse scratch.old scratch.new }
-{
-    let size = counted(word_at(scratch, PURSE_SIZE)) + counted(cost);
-    put(scratch, PURSE_WORD, 0);
-    put(scratch, PURSE_SIZE, size);
-}
-
-// A search has looked at so many words.
-fn spend(scratch: &mut [u32], cost: usize)
-    requires { Roomy scratch.old }
-    ensures { Purse scratch.old scratch.new }
-{
-    let left = word_at(scratch, PURSE_WORD);
-    if left <= cost {
-        empty_purse(scratch, cost);
-        return;
-    }
-    put(scratch, PURSE_WORD, left - cost);
-}
-
-/// Begins a unification: no cell has a place in the order, and the purse is full.
-pub fn begin(scratch: &mut [u32])
-    requires { Roomy scratch.old }
-    ensures { Begun scratch.old scratch.new }
-{
-    forget_order(scratch);
-    fill_purse(scratch, FIRST_PURSE);
-}
-
-// Whether cell x has a place in the order. Nothing is asked of the list, since a wrong answer costs one try more.
-fn has_place(scratch: &[u32], x: usize) -> bool
-    requires { (Roomy scratch.now) × (x < cells) }
-{
-    let i = word_at(scratch, ORDER_PLACES + x);
-    i < CELLS && i < word_at(scratch, ORDER_WORD) && word_at(scratch, ORDER + i) == x
-}
-
-// An order of the cells that will be bound, when cell x is bound to the term q with h pairs on the work stack, and of all that these cells lead
-// to, as far as it can be guessed in so many turns. Where it is not even the cell's, half of the pairs are looked at.
-fn order_ahead(
-    nodes: &[u32],
-    state: &[u32],
-    scratch: &mut [u32],
-    x: usize,
-    q: At,
-    h: usize,
-    turns: usize,
-)
-    requires { (Guardable nodes.now state.now scratch.old x q) × (h ≤ pairs) }
-    ensures { (g : Guardable nodes.now state.now scratch.old x q) → Redone g scratch.new }
-{
-    let n = look_ahead(Tables { nodes, state }, scratch, h, x, q, turns);
-    order_cells(nodes, state, scratch, PROPOSED, n);
-    if h == 0 {
-        return;
-    }
-    if has_place(scratch, x) {
-        return;
-    }
-    order_ahead(nodes, state, scratch, x, q, h / 2, turns / 2);
-}
-
-// The order made anew, and a purse that is twice as large.
-fn renew(nodes: &[u32], state: &[u32], scratch: &mut [u32], x: usize, q: At, h: usize)
-    requires { (Guardable nodes.now state.now scratch.old x q) × (h ≤ pairs) }
-    ensures { (g : Guardable nodes.now state.now scratch.old x q) → Renewed g scratch.new }
-{
-    let size = counted(word_at(scratch, PURSE_SIZE));
-    order_ahead(nodes, state, scratch, x, q, h, TURNS * size);
-    forget(scratch);
-    fill_purse(scratch, 2 * size);
-}
-
-// Whether the order shows that the variable of cell x does not stand in the term q. Where it does not, the cell has no place in it afterwards.
-fn frees(nodes: &[u32], scratch: &mut [u32], x: usize, q: At) -> bool
-    requires { (Boundable nodes.now scratch.old q.node q.copy) × (x < cells) }
-    ensures { (g : Boundable nodes.now scratch.old q.node q.copy) → Shown g scratch.new x result }
-{
-    if is_free(nodes, scratch, x, q) {
+    let w = word_at(nodes, here.node);
+    if FIRST_NAME <= w {
         return true;
     }
-    drop_from(scratch, x);
-    false
+    let y = cell_of(here.copy, w);
+    if y == x {
+        return false;
+    }
+    let v = word_at(state, y);
+    if v == 0 {
+        return true;
+    }
+    is_constant(nodes, unpack(v).node)
 }
 
-// The same, with a look first whether there is an order.
-fn shows(nodes: &[u32], scratch: &mut [u32], x: usize, q: At) -> bool
-    requires { (Boundable nodes.now scratch.old q.node q.copy) × (x < cells) }
-    ensures { (g : Boundable nodes.now scratch.old q.node q.copy) → Shown g scratch.new x result }
+// Whether each variable of a small term is another than that of cell x, and unbound or bound to a constant.
+fn is_shallow(nodes: &[u32], state: &[u32], x: usize, at: At) -> bool
+    requires { StoredTerm nodes.now state.now at.node at.copy }
+    ensures { (g : StoredTerm nodes.now state.now at.node at.copy) → result ≡ true → Shallow g x }
 {
-    if word_at(scratch, ORDER_WORD) == 0 {
+    let size = size_at(nodes, at.node);
+    if MOST_SHALLOW < size {
         return false;
     }
-    frees(nodes, scratch, x, q)
+    let e = at.node + size;
+    let mut i = at.node;
+    while i < e {
+        if !is_leaf(nodes, state, x, At { node: i, ..at }) {
+            return false;
+        }
+        i += LOADED_NODE;
+    }
+    true
 }
 
-// The same, after the order is made anew, if the purse is spent.
-fn shows_anew(nodes: &[u32], state: &[u32], scratch: &mut [u32], x: usize, q: At, h: usize) -> bool
-    requires { (Missing nodes.now state.now scratch.old x q) × (h ≤ pairs) }
-    ensures { (g : Missing nodes.now state.now scratch.old x q) → Tried g.given scratch.new result }
+/// Whether it is plain, with no search, that the binding of cell x to a term closes no cycle, where the copies below k are closed.
+pub fn closes_none(nodes: &[u32], state: &[u32], x: usize, at: At, k: usize) -> bool
+    requires { StoredTerm nodes.now state.now at.node at.copy }
+    ensures { (g : StoredTerm nodes.now state.now at.node at.copy) → result ≡ true
+        → Plain nodes.now state.now x at.node at.copy k ⊎ Shallow g x }
 {
-    if word_at(scratch, PURSE_WORD) != 0 {
-        return false;
+    if is_plain(nodes, state, x, at, k) {
+        return true;
     }
-    renew(nodes, state, scratch, x, q, h);
-    frees(nodes, scratch, x, q)
+    is_shallow(nodes, state, x, at)
 }
 
-// A search.
-fn search(nodes: &[u32], state: &[u32], scratch: &mut [u32], x: usize, q: At) -> bool
-    requires { Missing nodes.now state.now scratch.old x q }
-    ensures { (g : Missing nodes.now state.now scratch.old x q) → Guarded g.given scratch.new result }
+// Whether the variable at a place, in a copy, is bound and its cell not done.
+fn leads_on(nodes: &[u32], state: &[u32], scratch: &[u32], here: At) -> bool
+    requires { (here.node < length nodes.now) × ((here.copy < copies) × ((cells ≤ length state.now) × (cells ≤ length scratch.now))) }
+    ensures stays { result ≡ false → get_or nodes.now here.node 0 < first_name
+        → CellSettled state.now scratch.now (cell_of here.copy (get_or nodes.now here.node 0)) }
+    ensures leads { result ≡ true → LeadsOn nodes.now state.now scratch.now here.node here.copy }
 {
-    let r = occurs(nodes, state, scratch, x, q);
-    spend(scratch, r.cost);
-    r.found
+    let w = word_at(nodes, here.node);
+    if FIRST_NAME <= w {
+        return false;
+    }
+    let y = cell_of(here.copy, w);
+    word_at(state, y) != 0 && word_at(scratch, y) != DONE
 }
 
-/// Whether the unbound variable of cell x stands in the term q, with the bindings put in; the copies below k are closed, and h pairs are on the
-/// work stack.
-pub fn check(
-    nodes: &[u32],
-    state: &[u32],
-    scratch: &mut [u32],
-    x: usize,
-    q: At,
-    k: usize,
-    h: usize,
-) -> bool
-    requires { (Guardable nodes.now state.now scratch.old x q) × ((Closed k state.now) × (h ≤ pairs)) }
-    ensures { (g : Guardable nodes.now state.now scratch.old x q) → Guarded g scratch.new result }
+// The first place from one on and below e whose variable leads on; e where there is none.
+fn next_place(nodes: &[u32], state: &[u32], scratch: &[u32], from: At, e: usize) -> usize
+    requires { Lookable nodes.now state.now scratch.now from e }
+    ensures { (g : Lookable nodes.now state.now scratch.now from e) → Found g result }
 {
-    if shows(nodes, scratch, x, q) {
+    let mut i = from.node;
+    // A `while`, since the speed of the search is decided here.
+    while i < e {
+        if leads_on(nodes, state, scratch, At { node: i, ..from }) {
+            return i;
+        }
+        i += LOADED_NODE;
+    }
+    i
+}
+
+// Where the slot of a cell's word stands. It says which cell was done with that word, perhaps; nothing is asked of what stands there. The nodes of a copy have
+// slots of their own, and so have the copies of a node.
+fn slot_of(w: usize) -> usize
+    ensures { (slots ≤ result) × (result < slots + slot_count) }
+{
+    SLOTS + (w / TERM_WORDS + w % COPIES * SPREAD) % SLOT_COUNT
+}
+
+// Whether a cell that is bound to the word w is known to be done.
+fn is_done(state: &[u32], scratch: &[u32], w: usize) -> bool
+    requires { (cells ≤ length state.now) × (Roomy scratch.now) }
+    ensures { result ≡ true → DoneWith state.now scratch.now w }
+{
+    let z = word_at(scratch, slot_of(w));
+    z < CELLS && word_at(scratch, z) == DONE && word_at(state, z) == w
+}
+
+// The place in the term of the word w to be looked at first: its end, where a cell that is bound to the same is done.
+fn first_place(nodes: &[u32], state: &[u32], scratch: &[u32], w: usize) -> usize
+    requires { ((cells ≤ length state.now) × (Roomy scratch.now)) × ((node_of w + 1 < length nodes.now) × (term_end nodes.now w < 2 ^ 64)) }
+    ensures { FirstPlace nodes.now state.now scratch.now w result }
+{
+    let q = unpack(w).node;
+    if is_done(state, scratch, w) {
+        return q + size_at(nodes, q);
+    }
+    q
+}
+
+// Cell y, which is bound and not marked, put on the path.
+fn enter(nodes: &[u32], state: &[u32], scratch: &mut [u32], p: Progress, y: usize) -> Progress
+    requires { Enterable nodes.now state.now scratch.old p y }
+    ensures { (g : Enterable nodes.now state.now scratch.old p y) → EnteredCell g scratch.new result }
+{
+    let w = word_at(state, y);
+    let first = first_place(nodes, state, scratch, w);
+    bind(scratch, p.entered, y, OPEN);
+    let i = PATH + p.height * PATH_SIZE;
+    put(scratch, i, y);
+    put(scratch, i + 1, first);
+    Progress {
+        height: p.height + 1,
+        entered: p.entered + 1,
+    }
+}
+
+// The cell on top of the path looked at further: a cell more on the path, or this one done; none where a cycle is found.
+fn search_turn(nodes: &[u32], state: &[u32], scratch: &mut [u32], p: Progress) -> Option<Progress>
+    requires { (Searching nodes.now state.now scratch.old p) × (1 ≤ p.height) }
+    ensures { (g : Searching nodes.now state.now scratch.old p) → SearchTurned g scratch.new result }
+{
+    let top = PATH + (p.height - 1) * PATH_SIZE;
+    let x = word_at(scratch, top);
+    let from = word_at(scratch, top + 1);
+    let w = word_at(state, x);
+    let at = unpack(w);
+    let e = at.node + size_at(nodes, at.node);
+    let i = next_place(nodes, state, scratch, At { node: from, ..at }, e);
+    if e <= i {
+        put(scratch, x, DONE);
+        put(scratch, slot_of(w), x);
+        return Some(Progress {
+            height: p.height - 1,
+            ..p
+        });
+    }
+    let v = word_at(nodes, i);
+    let y = cell_of(at.copy, v);
+    if word_at(scratch, y) != 0 {
+        return None;
+    }
+    put(scratch, top + 1, i);
+    Some(enter(nodes, state, scratch, p, y))
+}
+
+// Turns until the path is empty. Where a cycle is found, the path stands.
+fn search_on(nodes: &[u32], state: &[u32], scratch: &mut [u32], start: Progress) -> Progress
+    requires { Searching nodes.now state.now scratch.old start }
+    ensures { (g : Searching nodes.now state.now scratch.old start) → SearchStopped g scratch.new result }
+{
+    let mut p = start;
+    // How many turns a search takes is known only at its end.
+    while 0 < p.height {
+        let Some(q) = search_turn(nodes, state, scratch, p) else {
+            return p;
+        };
+        p = q;
+    }
+    p
+}
+
+// A search from cell x on, so many cells having been entered.
+fn search(nodes: &[u32], state: &[u32], scratch: &mut [u32], m: usize, x: usize) -> Progress
+    requires given { Searching nodes.now state.now scratch.old (from_start m) }
+    requires cell { x < cells }
+    requires bound { cell_at state.now x ≡ 0 → ⊥ }
+    requires unmarked { get_or scratch.old x 0 ≡ 0 }
+    ensures { (g : Searching nodes.now state.now scratch.old (from_start m)) → SearchEnded g scratch.new x result }
+{
+    let start = Progress {
+        height: 0,
+        entered: m,
+    };
+    let p = enter(nodes, state, scratch, start, x);
+    search_on(nodes, state, scratch, p)
+}
+
+// The same, unless cell x is marked: then it is done.
+fn search_from(nodes: &[u32], state: &[u32], scratch: &mut [u32], m: usize, x: usize) -> Progress
+    requires given { Searching nodes.now state.now scratch.old (from_start m) }
+    requires cell { x < cells }
+    requires bound { cell_at state.now x ≡ 0 → ⊥ }
+    ensures { (g : Searching nodes.now state.now scratch.old (from_start m)) → SearchEnded g scratch.new x result }
+{
+    if word_at(scratch, x) != 0 {
+        return Progress {
+            height: 0,
+            entered: m,
+        };
+    }
+    search(nodes, state, scratch, m, x)
+}
+
+// Searches from so many pending cells, one after the other, until a cycle is found.
+fn search_pending(nodes: &[u32], state: &[u32], scratch: &mut [u32], pending: usize) -> Progress
+    requires { Testable nodes.now state.now scratch.old pending }
+    ensures { (g : Testable nodes.now state.now scratch.old pending) → AllSearched g scratch.new result }
+{
+    let mut m = 0;
+    for k in 0..pending {
+        let x = word_at(scratch, PENDING + k);
+        let p = search_from(nodes, state, scratch, m, x);
+        if 0 < p.height {
+            return p;
+        }
+        m = p.entered;
+    }
+    Progress {
+        height: 0,
+        entered: m,
+    }
+}
+
+/// Whether one of so many pending cells reaches a cycle of cells.
+pub fn is_cyclic(nodes: &[u32], state: &[u32], scratch: &mut [u32], pending: usize) -> bool
+    requires { Testable nodes.now state.now scratch.old pending }
+    ensures { (g : Testable nodes.now state.now scratch.old pending) → Tested g scratch.new result }
+{
+    if pending == 0 {
         return false;
     }
-    if is_plain(nodes, state, x, q, k) {
-        return false;
-    }
-    if shows_anew(nodes, state, scratch, x, q, h) {
-        return false;
-    }
-    search(nodes, state, scratch, x, q)
+    let p = search_pending(nodes, state, scratch, pending);
+    undo(scratch, 0, p.entered);
+    0 < p.height
 }

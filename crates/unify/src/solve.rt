@@ -1,24 +1,33 @@
 // Unification: the outer loop, which takes over where a variable stands on a side, bound or not.
-ghost use Rattle.std.specs.Prelude.{◌≡◌, ◌+◌, ◌<◌, ◌^◌, Err};
-ghost use Rattle.run_layout.specs.Regions.{loaded_node};
-ghost use Rattle.bindings.specs.Queues.{Closed};
+ghost use Rattle.std.specs.Prelude.{◌≡◌, ◌+◌, ◌≤◌, ◌<◌, ◌^◌, true, false, Err, set};
+ghost use Rattle.run_layout.specs.Regions.{cells, pending, loaded_node};
+ghost use Rattle.bindings.specs.Cells.{Stored, Undone};
+ghost use Rattle.bindings.specs.Scratch.{Roomy};
+ghost use Rattle.bindings.specs.Plain.{Closed};
 ghost use Rattle.unify.specs.declared.solve.TurnStop.TheVariants.{Bind};
-ghost use Rattle.unify.specs.Turns.{Crossed, Crossable, Crosses, PairTurned, Meetable, Turnable, TurnGives, Openable, Passable, ReadyToUnify, Advanced};
+ghost use Rattle.unify.specs.Turns.{Crossed, Crossable, Crosses, PairTurned, Meetable, Turnable, TurnGives, Openable, Passable};
+ghost use Rattle.unify.specs.Shapes.{SafeTurnable, SafeMeetable, SafePassable, SafeCrossable, SafeCrossed, SafeOpenable, TurnFalls, PairFalls};
 ghost use Rattle.unify.specs.Turns.{Solvable, Solved};
 ghost use Rattle.unify.specs.Turns.{Unifiable, UnifyGives};
 ghost use Rattle.unify.specs.Stacks.{only_row, inner_row};
 
-use crate::cycles::{begin, check};
+use crate::cycles::{closes_none, is_cyclic};
 use crate::walk::{WalkStop, walk_rows};
 use bindings::memos::{forget, known, remember};
 use bindings::occurrence::closed_to;
 use bindings::shortcuts::follow;
 use bindings::stack::{Side, put_pair, side_at};
-use bindings::store::bind;
+use bindings::store::{bind, undo};
 use run_layout::terms::{At, pack};
-use run_layout::{LOADED_NODE, PAIR_SIZE, SIDE_SIZE, STACK, cell_of};
+use run_layout::{LOADED_NODE, PAIR_SIZE, PAIRS, PENDING, SIDE_SIZE, STACK, cell_of};
 use syntax::FIRST_NAME;
-use words::tables::{size_at, word_at};
+use words::tables::{put, size_at, word_at};
+
+// The turns after which it is first looked whether bindings close a cycle.
+const FIRST_TURNS: usize = 16384;
+
+// The most turns between two such looks.
+const MOST_TURNS: usize = 1073741824;
 
 /// Why turns do not go on: names that differ, or the variable of a cell that is to be bound to a term, with so many pairs on the stack.
 #[derive(Clone, Copy)]
@@ -62,10 +71,11 @@ fn inner_row(p: At) -> Side
 }
 
 // Two dereferenced terms of one name before the rows of a stack of height h. Where they are one term, or known to be equal, there is nothing to do;
-// else their arguments are looked at next.
+// else their arguments are looked at next. While no cycle is closed there is room for them, so without room there is no unifier.
 fn open_pair(scratch: &mut [u32], h: usize, p: At, q: At) -> Result<usize, TurnStop>
-    requires { Openable scratch.old h p q }
-    ensures { (g : Openable scratch.old h p q) → PairTurned g.crossed scratch.new result }
+    requires { SafeOpenable scratch.old h p q }
+    ensures means { (g : Openable scratch.old h p q) → PairTurned g.crossed scratch.new result }
+    ensures safe { (s : SafeOpenable scratch.old h p q) → PairFalls s.crossed.work scratch.new result }
 {
     let left = pack(p);
     let right = pack(q);
@@ -74,6 +84,9 @@ fn open_pair(scratch: &mut [u32], h: usize, p: At, q: At) -> Result<usize, TurnS
     }
     if known(scratch, left, right) {
         return Ok(h);
+    }
+    if PAIRS <= h {
+        return Err(TurnStop::Clash);
     }
     put_pair(scratch, h, inner_row(p), inner_row(q));
     Ok(h + 1)
@@ -92,8 +105,9 @@ fn bind_to(h: usize, x: usize, term: At) -> Result<usize, TurnStop>
 
 // Two dereferenced terms before the rows of a stack of height h. Of two variables the later is bound to the earlier.
 fn decide(nodes: &[u32], scratch: &mut [u32], h: usize, p: At, q: At) -> Result<usize, TurnStop>
-    requires { Crossed nodes.now scratch.old h p q }
-    ensures { (g : Crossed nodes.now scratch.old h p q) → PairTurned g scratch.new result }
+    requires { SafeCrossed nodes.now scratch.old h p q }
+    ensures means { (g : Crossed nodes.now scratch.old h p q) → PairTurned g scratch.new result }
+    ensures safe { (s : SafeCrossed nodes.now scratch.old h p q) → PairFalls s.work scratch.new result }
 {
     let w = word_at(nodes, p.node);
     let z = word_at(nodes, q.node);
@@ -130,8 +144,9 @@ fn cross(
     p: At,
     q: At,
 ) -> Result<usize, TurnStop>
-    requires { Crossable nodes.now state.now scratch.old h p q }
-    ensures { (g : Crossable nodes.now state.now scratch.old h p q) → Crosses g scratch.new result }
+    requires { SafeCrossable nodes.now state.now scratch.old h p q }
+    ensures means { (g : Crossable nodes.now state.now scratch.old h p q) → Crosses g scratch.new result }
+    ensures safe { (s : SafeCrossable nodes.now state.now scratch.old h p q) → PairFalls s.work scratch.new result }
 {
     let e = follow(nodes, state, scratch, p, q);
     decide(nodes, scratch, h, e.left, e.right)
@@ -146,8 +161,9 @@ fn meet(
     l: Side,
     r: Side,
 ) -> Result<usize, TurnStop>
-    requires { Meetable nodes.now state.now scratch.old h l r }
-    ensures { (g : Meetable nodes.now state.now scratch.old h l r) → TurnGives g.work scratch.new result }
+    requires { SafeMeetable nodes.now state.now scratch.old h l r }
+    ensures means { (g : Meetable nodes.now state.now scratch.old h l r) → TurnGives g.work scratch.new result }
+    ensures safe { (s : SafeMeetable nodes.now state.now scratch.old h l r) → TurnFalls s.work scratch.new result }
 {
     let i = l.at + size_at(nodes, l.at);
     let j = r.at + size_at(nodes, r.at);
@@ -165,8 +181,9 @@ fn meet(
 
 // The top pair's rows are done: its two terms, the left one of so many words, are equal from now on.
 fn pass(scratch: &mut [u32], h: usize, size: usize, l: Side, r: Side) -> Result<usize, TurnStop>
-    requires { Passable scratch.old h l r }
-    ensures { (g : Passable scratch.old h l r) → TurnGives g.work scratch.new result }
+    requires { SafePassable scratch.old h l r }
+    ensures means { (g : Passable scratch.old h l r) → TurnGives g.work scratch.new result }
+    ensures safe { (s : SafePassable scratch.old h l r) → TurnFalls s.work scratch.new result }
 {
     let left = pack(At {
         node: l.root,
@@ -182,15 +199,16 @@ fn pass(scratch: &mut [u32], h: usize, size: usize, l: Side, r: Side) -> Result<
 
 // One turn at the top of a stack of height h.
 fn next_turn(nodes: &[u32], state: &[u32], scratch: &mut [u32], h: usize) -> Result<usize, TurnStop>
-    requires { Turnable nodes.now state.now scratch.old h }
-    ensures { (g : Turnable nodes.now state.now scratch.old h) → TurnGives g.work scratch.new result }
+    requires { SafeTurnable nodes.now state.now scratch.old h }
+    ensures means { (g : Turnable nodes.now state.now scratch.old h) → TurnGives g.work scratch.new result }
+    ensures safe { (s : SafeTurnable nodes.now state.now scratch.old h) → TurnFalls s.work scratch.new result }
 {
     let base = STACK + (h - 1) * PAIR_SIZE;
     let l = side_at(scratch, base);
     let r = side_at(scratch, base + SIDE_SIZE);
     let size = size_at(nodes, l.root);
     let e = l.root + size;
-    let found = walk_rows(nodes, l.at, e, r.at);
+    let found = walk_rows(nodes, l.at, e, r.at, h);
     match found {
         Ok(()) => pass(scratch, h, size, l, r),
         Err(WalkStop::Clash) => Err(TurnStop::Clash),
@@ -205,23 +223,42 @@ fn next_turn(nodes: &[u32], state: &[u32], scratch: &mut [u32], h: usize) -> Res
     }
 }
 
-// Turns, until the stack is empty or a turn does not go on. There are n bindings; they stay as they are, so the turns end.
-fn advance(
-    nodes: &[u32],
-    state: &[u32],
-    scratch: &mut [u32],
-    n: usize,
-    h: usize,
-) -> Result<(), TurnStop>
-    requires { ReadyToUnify nodes.now state.now scratch.old n h }
-    ensures { (g : ReadyToUnify nodes.now state.now scratch.old n h) → Advanced g.work scratch.new result }
+// A cell that is to be bound becomes a pending one, of which there are so many, unless it is plain that it closes no cycle. How many there are then.
+fn note_pending(scratch: &mut [u32], count: usize, x: usize, plain: bool) -> usize
+    requires { (Roomy scratch.old) × ((count < cells) × (x < cells)) }
+    ensures passed { plain ≡ true → (scratch.new ≡ scratch.old) × (result ≡ count) }
+    ensures noted { plain ≡ false → (scratch.new ≡ set scratch.old (pending + count) x) × (result ≡ count + 1) }
 {
-    let mut k = h;
-    // A turn takes a pair from the stack or puts one upon it, so how many turns there are is known only at the end.
-    while 0 < k {
-        k = next_turn(nodes, state, scratch, k)?;
+    if plain {
+        return count;
     }
-    Ok(())
+    put(scratch, PENDING + count, x);
+    count + 1
+}
+
+// The turns after which it is looked again whether bindings close a cycle: twice as many as the last time.
+fn doubled(turns: usize) -> usize
+    ensures { 1 ≤ turns → 1 ≤ result }
+{
+    if MOST_TURNS <= turns {
+        MOST_TURNS
+    } else {
+        2 * turns
+    }
+}
+
+// No unifier: the bindings from the n-th on are undone.
+fn fail(state: &mut [u32], n: usize, trail: usize) -> UnifyAnswer
+    requires stored { Stored state.old trail }
+    requires low { n ≤ trail }
+    ensures undone { Undone state.old state.new n trail }
+    ensures is { result ≡ record { equal = false; trail = n } }
+{
+    undo(state, n, trail);
+    UnifyAnswer {
+        equal: false,
+        trail: n,
+    }
 }
 
 // The one pair on the stack, with n bindings, the copies below k closed: turns, and a binding where they ask for one.
@@ -239,31 +276,41 @@ fn solve_pair(
     let mut trail = n;
     let mut h = 1;
     let mut closed = k;
-    // How many bindings there will be is known only at the end.
-    loop {
-        let t = advance(nodes, state, scratch, trail, h);
-        match t {
-            Ok(()) => return UnifyAnswer { equal: true, trail },
-            Err(TurnStop::Clash) => {
-                return UnifyAnswer {
-                    equal: false,
-                    trail,
-                };
+    let mut count = 0;
+    let mut turns = FIRST_TURNS;
+    let mut left = FIRST_TURNS;
+    // How many turns there will be is known only at the end.
+    while 0 < h {
+        if left == 0 {
+            if is_cyclic(nodes, state, scratch, count) {
+                return fail(state, n, trail);
             }
-            Err(TurnStop::Bind { height, cell, term }) => {
-                if check(nodes, state, scratch, cell, term, closed, height) {
-                    return UnifyAnswer {
-                        equal: false,
-                        trail,
-                    };
+            forget(scratch);
+            count = 0;
+            turns = doubled(turns);
+            left = turns;
+        } else {
+            left -= 1;
+            let t = next_turn(nodes, state, scratch, h);
+            match t {
+                Ok(j) => h = j,
+                Err(TurnStop::Clash) => return fail(state, n, trail),
+                Err(TurnStop::Bind { height, cell, term }) => {
+                    let plain = closes_none(nodes, state, cell, term, closed);
+                    count = note_pending(scratch, count, cell, plain);
+                    bind(state, trail, cell, term);
+                    closed = closed_to(cell, term.copy, closed);
+                    trail += 1;
+                    h = height;
                 }
-                bind(state, trail, cell, term);
-                closed = closed_to(cell, term.copy, closed);
-                trail += 1;
-                h = height;
             }
         }
     }
+    // The rows are at their end: the bindings are those of the unifier, unless they close a cycle.
+    if is_cyclic(nodes, state, scratch, count) {
+        return fail(state, n, trail);
+    }
+    UnifyAnswer { equal: true, trail }
 }
 
 /// As `unify`, with the copies below k closed: their cells are bound to terms of such copies only.
@@ -281,12 +328,11 @@ pub fn unify_closed(
     ensures { (g : Unifiable nodes.now state.old scratch.old p q n) → UnifyGives g state.new scratch.new result }
 {
     forget(scratch);
-    begin(scratch);
     put_pair(scratch, 0, only_row(p), only_row(q));
     solve_pair(nodes, state, scratch, n, k)
 }
 
-/// Unifies the terms p and q, with n bindings on the trail. Where they do not unify, the trail is left as it then is.
+/// Unifies the terms p and q, with n bindings on the trail. Where they do not unify, there are n again.
 pub fn unify(
     nodes: &[u32],
     state: &mut [u32],

@@ -2,5 +2,5 @@ use native.Mathlib.Omega.{arith}
 use lib.ListN.{length-set}
 use Rattle.bindings.proofs.memos.forget.Goals as goal
 
-pub bounds-scratch-269322 : goal.bounds-scratch-269322
-bounds-scratch-269322 c = simp length-set (omega arith)
+pub bounds-scratch-256000 : goal.bounds-scratch-256000
+bounds-scratch-256000 c = simp length-set (omega arith)

@@ -17,8 +17,8 @@ with_half-requires c = omega (arith, c.if-k-ge-CUT_COUNT.false)
 pub bounds-scratch-slot : goal.bounds-scratch-slot
 bounds-scratch-slot c = simp length-set (omega arith)
 
-pub bounds-scratch-269322 : goal.bounds-scratch-269322
-bounds-scratch-269322 c = simp length-set (omega arith)
+pub bounds-scratch-256000 : goal.bounds-scratch-256000
+bounds-scratch-256000 c = simp length-set (omega arith)
 
 pub returns : goal.returns
 returns c = cutting-new c.args.scratch.now c.word_at-k.result c.args.x c.args.y (slots + c.args.x % slot_count) c.with_half.result c.requires.0 c.word_at-k.ensures (omega (arith, c.if-k-ge-CUT_COUNT.false)) (omega arith) (omega arith)

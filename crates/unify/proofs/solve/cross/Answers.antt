@@ -1,4 +1,5 @@
-use Rattle.unify.proofs.Turning.{cross-both, cross-settled, cross-done}
+use Rattle.unify.proofs.Turning.{cross-done}
+use Rattle.unify.proofs.Safe.{cross-both, cross-settled, safe-crossed}
 use Rattle.unify.proofs.solve.cross.Goals as goal
 
 pub follow-e-requires : goal.follow-e-requires
@@ -8,4 +9,8 @@ pub decide-requires : goal.decide-requires
 decide-requires c = cross-settled c.requires c.follow-e.ensures
 
 pub returns : goal.returns
-returns c = λ g. cross-done g c.follow-e.ensures c.decide.new.scratch c.decide.result c.decide.ensures
+returns c =
+    record {
+      means = λ g. cross-done g c.follow-e.ensures c.decide.new.scratch c.decide.result c.decide.ensures.means;
+      safe = λ s. safe-crossed s c.follow-e.ensures c.decide.new.scratch c.decide.result c.decide.ensures.safe;
+    }

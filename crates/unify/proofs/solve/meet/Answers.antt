@@ -1,5 +1,6 @@
 use native.Mathlib.Omega.{arith}
-use Rattle.unify.proofs.Turning.{met-inside, met-cross, met_turned}
+use Rattle.unify.proofs.Turning.{met_turned}
+use Rattle.unify.proofs.Safe.{met-inside, met-cross, safe-met}
 use Rattle.unify.proofs.solve.meet.Goals as goal
 
 pub size_at-requires : goal.size_at-requires
@@ -21,4 +22,8 @@ pub cross-requires : goal.cross-requires
 cross-requires c = met-cross c.requires c.size_at.ensures c.size_at-2.ensures c.put_pair.ensures
 
 pub returns : goal.returns
-returns c = λ g. met_turned g c.size_at.ensures c.size_at-2.ensures c.put_pair.ensures c.cross.new.scratch c.cross.result c.cross.ensures
+returns c =
+    record {
+      means = λ g. met_turned g c.size_at.ensures c.size_at-2.ensures c.put_pair.ensures c.cross.new.scratch c.cross.result c.cross.ensures.means;
+      safe = λ s. safe-met s c.size_at.ensures c.size_at-2.ensures c.put_pair.ensures c.cross.new.scratch c.cross.result c.cross.ensures.safe;
+    }

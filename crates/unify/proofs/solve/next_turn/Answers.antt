@@ -1,4 +1,5 @@
-use Rattle.unify.proofs.Turning.{turn-room, turn_inside, turn-walk, turn-pass, turn-done, turn-clash, turn-met, turn_end}
+use Rattle.unify.proofs.Turning.{turn-done, turn-clash, turn_end}
+use Rattle.unify.proofs.Safe.{turn-room, turn_inside, turn-walk, turn-pass, turn-met, safe-turn-done, safe-turn-clash, safe-turn-met}
 use native.Mathlib.Omega.{arith}
 use Rattle.unify.proofs.solve.next_turn.Goals as goal
 
@@ -27,16 +28,28 @@ pub walk_rows-found-requires : goal.walk_rows-found-requires
 walk_rows-found-requires c = turn-walk c.requires c.side_at-l.ensures c.side_at-r.ensures c.size_at-size.ensures
 
 pub pass-requires : goal.pass-requires
-pass-requires c = turn-pass c.requires c.side_at-l.ensures c.side_at-r.ensures c.size_at-size.ensures c.walk_rows-found.result c.walk_rows-found.ensures c.in-Ok.is
+pass-requires c = turn-pass c.requires c.side_at-l.ensures c.side_at-r.ensures
 
 pub meet-requires : goal.meet-requires
-meet-requires c = turn-met c.requires c.side_at-l.ensures c.side_at-r.ensures c.size_at-size.ensures c.walk_rows-found.result c.walk_rows-found.ensures c.in-Err-Met.is (rw c.in-Err-Met.is at c.in-Err-Met.field-0-is)
+meet-requires c = turn-met c.requires c.side_at-l.ensures c.side_at-r.ensures c.size_at-size.ensures c.walk_rows-found.result c.walk_rows-found.ensures.walks c.in-Err-Met.is (rw c.in-Err-Met.is at c.in-Err-Met.field-0-is)
 
 pub returns-in-Ok : goal.returns-in-Ok
-returns-in-Ok c = λ g. turn-done g c.side_at-l.ensures c.side_at-r.ensures c.size_at-size.ensures c.walk_rows-found.result c.walk_rows-found.ensures c.in-Ok.is c.pass.new.scratch c.pass.result c.pass.ensures
+returns-in-Ok c =
+    record {
+      means = λ g. turn-done g c.side_at-l.ensures c.side_at-r.ensures c.size_at-size.ensures c.walk_rows-found.result c.walk_rows-found.ensures.walks c.in-Ok.is c.pass.new.scratch c.pass.result c.pass.ensures.means;
+      safe = λ s. safe-turn-done s c.side_at-l.ensures c.side_at-r.ensures c.pass.new.scratch c.pass.result c.pass.ensures.safe;
+    }
 
 pub returns-in-Err-Clash : goal.returns-in-Err-Clash
-returns-in-Err-Clash c = λ g. turn-clash g c.side_at-l.ensures c.side_at-r.ensures c.size_at-size.ensures c.walk_rows-found.result c.walk_rows-found.ensures c.in-Err-Clash.is (rw c.in-Err-Clash.is at c.in-Err-Clash.field-0-is)
+returns-in-Err-Clash c =
+    record {
+      means = λ g. turn-clash g c.side_at-l.ensures c.side_at-r.ensures c.size_at-size.ensures c.walk_rows-found.result c.walk_rows-found.ensures.walks c.in-Err-Clash.is (rw c.in-Err-Clash.is at c.in-Err-Clash.field-0-is);
+      safe = λ s. safe-turn-clash s c.side_at-l.ensures c.side_at-r.ensures;
+    }
 
 pub returns-in-Err-Met : goal.returns-in-Err-Met
-returns-in-Err-Met c = λ g. turn_end g c.side_at-l.ensures c.side_at-r.ensures c.size_at-size.ensures c.walk_rows-found.result c.walk_rows-found.ensures c.in-Err-Met.is (rw c.in-Err-Met.is at c.in-Err-Met.field-0-is) c.meet.new.scratch c.meet.result c.meet.ensures
+returns-in-Err-Met c =
+    record {
+      means = λ g. turn_end g c.side_at-l.ensures c.side_at-r.ensures c.size_at-size.ensures c.walk_rows-found.result c.walk_rows-found.ensures.walks c.walk_rows-found.ensures.variable c.in-Err-Met.is (rw c.in-Err-Met.is at c.in-Err-Met.field-0-is) c.meet.new.scratch c.meet.result c.meet.ensures.means;
+      safe = λ s. safe-turn-met s c.side_at-l.ensures c.side_at-r.ensures c.size_at-size.ensures c.walk_rows-found.result c.walk_rows-found.ensures.walks c.in-Err-Met.is (rw c.in-Err-Met.is at c.in-Err-Met.field-0-is) c.meet.new.scratch c.meet.result c.meet.ensures.safe;
+    }

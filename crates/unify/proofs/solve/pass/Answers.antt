@@ -1,5 +1,6 @@
 use native.Mathlib.Omega.{arith}
-use Rattle.unify.proofs.Turning.{pass-small, pass-turned, remembers-at}
+use Rattle.unify.proofs.Turning.{pass-turned, remembers-at}
+use Rattle.unify.proofs.Safe.{pass-small, safe-passed}
 use Rattle.unify.proofs.solve.pass.Goals as goal
 
 pub remember-requires : goal.remember-requires
@@ -12,4 +13,4 @@ pub pack-right-requires : goal.pack-right-requires
 pack-right-requires c = omega (arith, pass-small c.requires)
 
 pub returns : goal.returns
-returns c = λ g. pass-turned g (remembers-at c.pack-left.ensures c.pack-right.ensures c.remember.ensures)
+returns c = record { means = λ g. pass-turned g (remembers-at c.pack-left.ensures c.pack-right.ensures c.remember.ensures); safe = λ s. safe-passed s c.remember.ensures }
