@@ -1,5 +1,6 @@
 """Workings of REQUESTS (xi): a recorder, which gives those of the answers of a run, and a
-checker, which shares with the engine's runs only reading, unification and the line."""
+checker, which shares with the engine's runs reading and checking, the copies of
+clauses and bodies, unification and the line; the replay and its bytes are its own."""
 
 import engine
 from engine import Either, Equation, LogicVariable, Refusal
