@@ -187,7 +187,7 @@ pub struct ParserState {
     pub literals: usize,
 }
 
-/// The text that a refusal speaks of. Nothing gives `Workings`.
+/// The text that a refusal speaks of.
 #[derive(Clone, Copy)]
 pub enum Text {
     Sheet,
@@ -249,13 +249,13 @@ pub enum Refusal {
     SeenUndeclared,
     /// 16: the byte of the name of a declared predicate that has no clause.
     Unwritten(usize),
-    /// 11, not given.
+    /// 11: a sheet written afresh exceeds 16,384 bytes or the lent buffer.
     OutputTooLong,
-    /// 12, not given.
+    /// 12: fewer than 262,144 words lent to a run of several goals, or not one to four goals.
     WardSettings,
-    /// 17, not given.
+    /// 17: the workings of a goal are not accepted. The byte of the first record that is malformed or not used up.
     BadWorkings(usize),
-    /// 18, not given.
+    /// 18: the line that workings lead to exceeds the buffer.
     LineTooLong,
 }
 
