@@ -20,11 +20,11 @@ right_at scratch k = stack_side scratch (pair_of k + side_size)
 unfoldable pub pair_words : List ℕ → ℕ → Side → Side → List ℕ
 pair_words scratch k l r = stack_side_words (stack_side_words scratch (pair_of k) l) (pair_of k + side_size) r
 
--- what stands before the work stack is as it was: marks, queue and order; and so is the length
+-- what stands before the work stack is as it was: marks, cells entered and pending cells; and so is the length
 pub record SameMarks (before after : List ℕ) : Type 0 where
   pub long : length after ≡ length before
   pub words : (j : ℕ) → j < stack → slice_index after j ≡ slice_index before j
 
--- Room for marks, queue, pairs and the memo up to its rows; a row is taken only where it fits.
+-- Room for marks, cells entered, pending cells, pairs and the memo up to its rows; a row is taken only where it fits.
 abbrev pub Roomy : List ℕ → Type 0
 Roomy scratch = rows ≤ length scratch

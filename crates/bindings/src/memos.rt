@@ -2,8 +2,7 @@
 // A class has a number; where two classes become one, their numbers are linked, the one of lower rank to the other. A node that was met has a row, with
 // half a word for each of its copies: the number of that term's class, or 0. A slot, chosen by the node's place, says which row is the node's. Slots
 // are never cleared: a row names its node, and the name is compared. A row is cleared when it is taken, and a call begins with no rows.
-// Of two terms that become equal one was reached by way of a bound cell, so there are no more new numbers than bound cells; and scratch words that have
-// a row for each node have room for every term.
+// Where no number or row is left, the memo begins anew (`begin_anew`). Scratch words that have a row for each node have room for every term.
 
 ghost use Rattle.std.specs.Prelude.{IfSome, ◌≡◌, true, ◌+◌, ◌*◌, ◌/◌, ◌%◌, ◌-◌, ◌≤◌, ◌<◌, ◌^◌, length, get_or, set};
 ghost use Rattle.run_layout.specs.Halves.{stored};

@@ -223,8 +223,9 @@ pub fn tried_clause_is_for_the_call()
         → a.literals ≡ record { copy = c; literal = call at } ∷ rest → (cl : Clause) → clause_at sh a.next ≡ some cl → T (is_for at cl) }
 {}
 
-/// How high the pile is: with j alternatives below one, j and the number of its literals left are together at most 16 for the goal and for each call of its path.
-/// So a pile of an accepted goal over an accepted sheet, with a trace's facts or without, has at most 4,096 alternatives while no path is longer than 255.
+/// How high the pile is: with j alternatives below one, j and the number of its literals left are together at most 16 for the goal and for each call of its
+/// path. So a pile of an accepted goal over an accepted sheet, with a trace's facts or without, has at most 4,096 alternatives while no path is longer than
+/// 255.
 pub fn pile_is_low()
     ensures below { (sh : Sheet) (g : Goal) → ClausesShort sh.clauses → BodyShort g.body → (n : ℕ) → Low (pile_after sh g n) }
     ensures most { (stored : Bool) (sheet goal trace : List ℕ) (sh : Sheet) (g : Goal) → checked_with stored sheet ≡ accepted sh
@@ -257,8 +258,8 @@ pub fn listed_cases_hold()
 
 // ---- a sheet written afresh
 
-/// Two sheets both written have equal output exactly when their declarations agree in order, and their clauses too, up to names of variables and leading zeros of
-/// numerals. The output is accepted, and writing it afresh changes no byte. What is written reads back as the same sheet, but for places.
+/// Two sheets both written have equal output exactly when their declarations agree in order, and their clauses too, up to names of variables and leading
+/// zeros of numerals. The output is accepted, and writing it afresh changes no byte. What is written reads back as the same sheet, but for places.
 pub fn equal_sheets_are_written_alike()
     ensures exactly { EqualExactlyButForNames }
     ensures again { WrittenAgainTheSame }
@@ -267,8 +268,8 @@ pub fn equal_sheets_are_written_alike()
 
 // ---- workings of another engine
 
-/// Workings are accepted exactly when they are the records of a derivation of the goal by leftmost resolution. The line is that of its most general answer. The
-/// byte of refusal 17 is the length of the longest beginning that is used up.
+/// Where a line is told or does not fit, the workings are the records of a derivation of the goal by leftmost resolution, whose most general answer gives
+/// the line. Where 17 is given, they are those of none, and its byte is the length of the longest beginning that is used up, 0 where none is.
 pub fn outcomes_are_right()
     ensures { EveryOutcomeIsRight }
 {}

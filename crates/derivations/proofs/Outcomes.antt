@@ -134,7 +134,7 @@ module _ (sheet goal workings old new : List ℕ) (r : Result ℕ Fault) where
   unfolding workings_answer workings_text
   by-outcome (told l) x e t =
       record {
-        line = λ n q. (l, (x.line l refl).0, ok-eq n (length l) (sym q ∙ e), t);
+        line = λ n q. (l, (x.line l refl).0, ok-eq n (length l) (sym q ∙ e), (x.line l refl).1, t);
         not_accepted = λ byte q. ok-err (record { text = in_workings; refusal = BadWorkings byte }) (length l) (sym e ∙ q);
         too_long = λ q. ok-err (record { text = Neither; refusal = LineTooLong }) (length l) (sym e ∙ q);
       }

@@ -44,13 +44,14 @@ pub record RightOutcome (sheet goal workings : List ℕ) (room : ℕ) (o : Worki
 
 -- The same of what a check answers and what it leaves of a text.
 pub record RightAnswer (sheet goal workings old new : List ℕ) (r : Result ℕ Fault) : Type 0 where
-  pub line : (n : ℕ) → r ≡ Ok n → (l : List ℕ) × DerivesLine sheet goal workings l × (n ≡ length l) × (new ≡ sets old 0 l)
+  pub line : (n : ℕ) → r ≡ Ok n → (l : List ℕ) × DerivesLine sheet goal workings l × (n ≡ length l) × (length l ≤ length old) × (new ≡ sets old 0 l)
   pub not_accepted : (byte : ℕ) → r ≡ Refused in_workings (BadWorkings byte) → DerivesNothing sheet goal workings byte
   pub too_long : r ≡ Refused Neither LineTooLong → (l : List ℕ) × DerivesLine sheet goal workings l × (length old < length l)
 
 -- ---- the theorems
 
--- Workings are accepted exactly when they are those of a derivation by leftmost resolution, whose most general answer gives the line; and 17's byte is right.
+-- Where a line is told or does not fit, the workings are those of a derivation by leftmost resolution, whose most general answer gives the line. Where 17
+-- is given they are those of none, and its byte is right. That a replay has no other outcome is `ReplaysExactly`.
 abbrev pub EveryOutcomeIsRight : Type 0
 EveryOutcomeIsRight = (sheet goal workings : List ℕ) (room : ℕ) → RightOutcome sheet goal workings room (workings_outcome sheet goal workings room)
 

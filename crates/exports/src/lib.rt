@@ -1,6 +1,5 @@
-// Reading, checking, running and writing afresh for programs in other languages: include/pilvaust.h. Each answer is a list of numbers (`Told` of specs/ here;
-// `Numbers` and
-// `EntriesNumbers` of output/specs), of which a lent slice takes as many as fit; the rest of the slice stays as it was.
+// Reading, checking, running and writing afresh for programs in other languages: include/pilvaust.h. Each answer is a list of numbers (`Told` of specs/
+// here; `Numbers` and `EntriesNumbers` of output/specs), of which a lent slice takes as many as fit; the rest of the slice stays as it was.
 
 #![tactic(auto)]
 

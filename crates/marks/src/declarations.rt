@@ -112,8 +112,8 @@ impl<'a> Declarations<'a> {
         is_match(self.text, self.words, q, name, arguments)
     }
 
-    /// The number of the declaration of the predicate of the atom at place `p`; none where it has none. Declaration `near` is tried first: clauses of a predicate stand
-    /// together.
+    /// The number of the declaration of the predicate of the atom at place `p`; none where it has none. Declaration `near` is tried first: clauses of a
+    /// predicate stand together.
     pub fn find_near(self, read: ReadText<'_>, p: usize, near: usize) -> Option<usize>
         requires { AtomIn read p }
         ensures { (d : DeclarationsIn self.entry) (w : AtomIn read.entry p) → first_repeat [] d.list ≡ none

@@ -60,7 +60,8 @@ pub record Faulted (entry exit : List ℕ) (n : ℕ) (q : Refusal) (k b : ℕ) :
 
 -- Otherwise: the reader after what was read, how many things those are, and the words before n followed by the words of what was read. Of a
 -- node's words for each byte that was read, and one more, at least `spare` are left over.
-pub record GivenWith (spare : ℕ) (s : List ℕ) (from : ParserState) (entry exit : List ℕ) (n : ℕ) (r : Parsed) (words : List ℕ) (items : ℕ) (after : Cursor) : Type 0
+pub record GivenWith (spare : ℕ) (s : List ℕ) (from : ParserState) (entry exit : List ℕ) (n : ℕ) (r : Parsed) (words : List ℕ) (items : ℕ)
+    (after : Cursor) : Type 0
   where
     pub state_is : cursor_of s exit r.state ≡ after
     pub items_is : r.items ≡ items

@@ -34,7 +34,7 @@ fn check_goal_workings(
 }
 
 /// The workings of a goal checked over a checked sheet that stands in its tables.
-pub fn read_goal_and_check(
+pub(crate) fn read_goal_and_check(
     declarations: Declarations<'_>,
     table: &[u32],
     k: usize,

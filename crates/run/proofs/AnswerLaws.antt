@@ -130,7 +130,7 @@ rewind-low {state} {h} {n} {m} w e = subst⁻¹ (λ (x : ℕ). x ≤ n) e (rewin
 pub rewind-ends : {state after : List ℕ} {h n m : ℕ} (w : Rewindable state h n) → m ≡ mark_at state (h - 1) → Undone state after m n → Rewound state after h n m
 rewind-ends {state} {after} {h} {n} {m} w e u = subst⁻¹ (Rewound state after h n) e (rewind-end w (subst (λ (x : ℕ). Undone state after x n) e u))
 
--- ---- the scratch words behind marks and queue
+-- ---- the scratch words behind the pending cells
 
 pub part-marks : (xs zs : List ℕ) → stack ≤ length xs → length (take stack xs ++ zs) ≡ length xs → SameMarks xs (take stack xs ++ zs)
 part-marks xs zs l e =

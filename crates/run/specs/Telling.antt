@@ -57,7 +57,7 @@ solution_of loaded state =
 abbrev pub meaning_of : List Symbol → Sheet → Goal → LoadedProgram → Meaning
 meaning_of ss sh g loaded = record { ss = ss; sh = sh; g = g; nodes = loaded.nodes.now; code = loaded.code.now }
 
--- scratch words whose part behind marks and queue is an ample stack for the brackets of an answer with so many bytes of room
+-- scratch words whose part behind the pending cells is an ample stack for the brackets of an answer with so many bytes of room
 abbrev pub Tellable : List ℕ → ℕ → Type 0
 Tellable scratch room = min (deepest * open_size) (room * 2 + 4) + stack ≤ length scratch
 

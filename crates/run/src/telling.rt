@@ -90,7 +90,7 @@ pub fn rewind(state: &mut [u32], pile: PileHeight) -> usize
 }
 
 /// Writes the line of an answer from `at` on and returns the position past it; None where it does not fit. The brackets open in a term stand in the scratch
-/// words behind marks and queue.
+/// words behind the pending cells.
 pub fn tell(
     loaded: LoadedProgram,
     state: &[u32],

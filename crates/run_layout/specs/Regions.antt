@@ -118,7 +118,7 @@ most_alternatives = literals * copies
 abbrev pub state_words : ℕ
 state_words = alternatives + most_alternatives * alternative_size
 
--- ---- scratch: marks and queue as cells and trail, pending cells, the work stack, short cuts, the memo
+-- ---- scratch: marks and cells entered as cells and trail, pending cells, the work stack, short cuts, the memo
 
 -- The cells that were bound with no search, where their bindings may close a cycle.
 abbrev pub pending : ℕ

@@ -58,7 +58,8 @@ pub record TrailEntry (ss : List Symbol) (nodes state : List ℕ) (i : ℕ) : Ty
 
 -- Entry i closes a cycle: its variable stands in its term, once the bindings before it are put in.
 abbrev pub ClosesCycle : List Symbol → List ℕ → List ℕ → ℕ → Type 0
-ClosesCycle ss nodes state i = T (occurs (variable_of (trail_at state i)) (resolve (bindings ss nodes state i) (value_of ss nodes (cell_at state (trail_at state i)))))
+ClosesCycle ss nodes state i = T (occurs (variable_of (trail_at state i)) (resolve (bindings ss nodes state i) (value_of ss nodes (cell_at state
+    (trail_at state i)))))
 
 -- none of the first n entries does
 abbrev pub Acyclic : List Symbol → List ℕ → List ℕ → ℕ → Type 0

@@ -194,8 +194,8 @@ const TEXTS: usize = 2;
 const SYMBOL_PLACES: usize = TEXTS * LENGTHS;
 
 /// A symbol's word (specs/Symbols): the place of its name, the text, 0 for the sheet and 1 for the goal, and its length in bytes, which
-/// `words::packing::span_length` reads. The text is a number, since
-/// it is a part of a word; elsewhere it is `load::node_words::Source`, or the text itself (`symbols::text_of`).
+/// `words::packing::span_length` reads. The text is a number, since it is a part of a word; elsewhere it is `load::node_words::Source`, or the text
+/// itself (`symbols::text_of`).
 pub fn pack_symbol(place: usize, text: usize, len: usize) -> u32
     requires { symbol_word place text len < 2 ^ 32 }
     ensures { result ≡ symbol_word place text len }

@@ -105,8 +105,10 @@ pub record SearchState (ss : List Symbol) (nodes state : List ℕ) (n : ℕ) (be
   pub done : (y : ℕ) → y < cells → get_or scratch y 0 ≡ done_mark → DoneCell ss nodes state scratch rank most y
   pub path : (j : ℕ) → j < p.height → OpenCell ss nodes state scratch (path_cell scratch j) (path_place scratch j)
   pub apart : (j k : ℕ) → j < k → k < p.height → path_cell scratch j ≡ path_cell scratch k → ⊥
-  pub open_cells : (y : ℕ) → y < cells → (get_or scratch y 0 ≡ 0 → ⊥) → (get_or scratch y 0 ≡ done_mark → ⊥) → (j : ℕ) × ((j < p.height) × (path_cell scratch j ≡ y))
-  pub falls : Acyclic ss nodes state n → (j k : ℕ) → j < k → k < p.height → cell_size ss nodes state n (path_cell scratch k) < cell_size ss nodes state n (path_cell scratch j)
+  pub open_cells : (y : ℕ) → y < cells → (get_or scratch y 0 ≡ 0 → ⊥) → (get_or scratch y 0 ≡ done_mark → ⊥)
+      → (j : ℕ) × ((j < p.height) × (path_cell scratch j ≡ y))
+  pub falls : Acyclic ss nodes state n → (j k : ℕ) → j < k → k < p.height
+      → cell_size ss nodes state n (path_cell scratch k) < cell_size ss nodes state n (path_cell scratch j)
 
 -- ---- what functions are given
 
@@ -164,9 +166,11 @@ pub record Enterable (nodes state scratch : List ℕ) (p : Progress) (y : ℕ) :
   pub cell : y < cells
   pub bound : cell_at state y ≡ 0 → ⊥
   pub unmarked : get_or scratch y 0 ≡ 0
-  pub less : Acyclic given.ss nodes state given.n → (k : ℕ) → k < p.height → cell_size given.ss nodes state given.n y < cell_size given.ss nodes state given.n (path_cell scratch k)
+  pub less : Acyclic given.ss nodes state given.n → (k : ℕ) → k < p.height
+      → cell_size given.ss nodes state given.n y < cell_size given.ss nodes state given.n (path_cell scratch k)
 
-pub record EnteredCell {nodes state before : List ℕ} {p : Progress} {y : ℕ} (g : Enterable nodes state before p y) (after : List ℕ) (r : Progress) : Type 0 where
+pub record EnteredCell {nodes state before : List ℕ} {p : Progress} {y : ℕ} (g : Enterable nodes state before p y) (after : List ℕ)
+    (r : Progress) : Type 0 where
   pub search : SearchState g.given.ss nodes state g.given.n g.given.before after r
   pub height : r.height ≡ p.height + 1
   pub entered : r.entered ≡ p.entered + 1
@@ -200,7 +204,8 @@ abbrev pub from_start : ℕ → Progress
 from_start m = record { height = 0; entered = m }
 
 -- A search from cell x has ended: its path is empty, or an entry closes a cycle.
-pub record SearchEnded {nodes state before : List ℕ} {m : ℕ} (g : Searching nodes state before (from_start m)) (after : List ℕ) (x : ℕ) (r : Progress) : Type 0 where
+pub record SearchEnded {nodes state before : List ℕ} {m : ℕ} (g : Searching nodes state before (from_start m)) (after : List ℕ) (x : ℕ)
+    (r : Progress) : Type 0 where
   pub search : SearchState g.ss nodes state g.n g.before after r
   pub more : StayMarked before after
   pub here : get_or after x 0 ≡ 0 → ⊥

@@ -1,6 +1,6 @@
-// Whether bindings close a cycle: one depth-first search over the cells that are reached from the pending ones. A cell that is entered is marked as open and put
-// on the path, with the place reached in its term; when all variables of the term are done, so is the cell. A bound variable whose cell is open closes a cycle.
-// The marks stand where those of cells do, and the cells entered are listed as the trail lists bound cells, so that `undo` unmarks them.
+// Whether bindings close a cycle: one depth-first search over the cells that are reached from the pending ones. A cell that is entered is marked as open and
+// put on the path, with the place reached in its term; when all variables of the term are done, so is the cell. A bound variable whose cell is open closes a
+// cycle. The marks stand where those of cells do, and the cells entered are listed as the trail lists bound cells, so that `undo` unmarks them.
 
 ghost use Rattle.std.specs.Prelude.{◌⊎◌, ◌≡◌, ◌+◌, ◌^◌, ◌≤◌, ◌<◌, true, false, length, get_or};
 ghost use Rattle.syntax.specs.Words.{first_name};
@@ -9,8 +9,9 @@ ghost use Rattle.run_layout.specs.State.{cell_of, cell_at, node_of};
 ghost use Rattle.bindings.specs.Cells.{StoredTerm};
 ghost use Rattle.bindings.specs.Plain.{Plain};
 ghost use Rattle.bindings.specs.Scratch.{Roomy};
-ghost use Rattle.unify.specs.Cycles.{LeafCell, Shallow, term_end, CellSettled, LeadsOn, Lookable, Found, DoneWith, FirstPlace, Searching, Enterable, EnteredCell, SearchTurned};
-ghost use Rattle.unify.specs.Cycles.{SearchStopped, from_start, SearchEnded, Testable, AllSearched, Tested};
+ghost use Rattle.unify.specs.Cycles.{LeafCell, Shallow, term_end, CellSettled, LeadsOn, Lookable, Found, DoneWith, FirstPlace};
+ghost use Rattle.unify.specs.Cycles.{Searching, Enterable, EnteredCell, SearchTurned, SearchStopped, from_start, SearchEnded};
+ghost use Rattle.unify.specs.Cycles.{Testable, AllSearched, Tested};
 
 use bindings::occurrence::{is_constant, is_plain};
 use bindings::store::{bind, undo};

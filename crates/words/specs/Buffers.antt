@@ -15,7 +15,8 @@ decimal n = digits (suc n) n
 abbrev pub number : ℕ → List ℕ
 number n = (32 ∷ []) ++ decimal n
 
--- The words of a line that tells a verdict have at most so many bytes: 16 of `refused workings`, and five numbers of at most 20 digits with a space before each.
+-- The words of a line that tells a verdict have at most so many bytes: 16 of `refused workings`, and five numbers of at most 20 digits with a space before
+-- each.
 abbrev pub line_words : ℕ
 line_words = 121
 
