@@ -13,7 +13,7 @@ import tempfile
 
 import engine
 
-BOUND = 50  # milliseconds
+BOUND = 100  # milliseconds
 REPEATS, ROUNDS = 4, 3
 SIGNS = list("BCDEFGHIJKLMNOPQRSTUVWXYZ") + [a + b for a in "ABCDEF" for b in "abcdefghij"]
 
@@ -25,10 +25,10 @@ def tree(terms):
     return terms[0]
 
 
-def filled(start, clause):
-    """As many more clauses as a sheet has room for; each has its number last, so all are apart, and only there."""
+def filled(start, clause, most=engine.CLAUSES):
+    """As many more clauses as a sheet has room for, or as there may be; each has its number last, so all are apart, and only there."""
     sheet, number = start, start.count(".") - 1
-    while number < engine.CLAUSES and len(sheet + clause % number) <= engine.SHEET_BYTES:
+    while number < most and len(sheet + clause % number) <= engine.SHEET_BYTES:
         sheet, number = sheet + clause % number, number + 1
     return sheet
 
@@ -69,6 +69,28 @@ def bound_leaves(count, leaves, small):
     return tied(pairs, small)
 
 
+def endless(leaves, small):
+    """A clause that meets so many others: with each it makes two cyclic terms of so many leaves a turn, and only then are they unified."""
+    large = tree(["a"] * leaves)
+    start = ":-mode p(+,+).p(t(h(%s,X),h(%s,W),X,W,W),N)." % (large, large)
+    return filled(start, "p(t(V,U,V,U,V),%d).", small)
+
+
+def endless_pairs(half):
+    """The same in each pair of a clause from one half and a clause from the other. Within a half clauses have another number."""
+    numbers = range(half)
+    halves = ["p(%d,N,t(X,W,X,W,X))." % n for n in numbers] + ["p(N,%d,t(h(Y),h(Z),Y,Z,Z))." % n for n in numbers]
+    return ":-mode p(+,+,+)." + "".join(halves)
+
+
+def small_terms(links, leaves, small):
+    """Small terms with variables at the end of a chain of so many links, met so many times; a variable is bound to one that stands earlier."""
+    chain = SIGNS[2 : links + 2]
+    pairs = [(tree(chain), "C")] + list(zip(chain[:0:-1], chain[-2::-1]))
+    pairs += [("A", "h(%s)" % ",".join(chain[-1:] * 6)), ("B", "h(%s)" % ",".join(chain[-2:-4:-1] * 3))]
+    return tied(pairs + [(tree(["A"] * leaves), tree(["B"] * leaves))], small)
+
+
 SHEETS = {
     "large heads, constants": large_heads("a", 22),
     "large heads, one variable": large_heads("X", 22),
@@ -80,6 +102,9 @@ SHEETS = {
     "alternation over 512 leaves": alternation(15, 512, 240),
     "bound leaves, 128 more": bound_leaves(20, 128, 235),
     "bound leaves, 512 more": bound_leaves(20, 512, 240),
+    "small terms": small_terms(33, 2350, 235),
+    "endless, in pairs": endless_pairs(128),
+    "endless, many leaves": endless(2000, 255),
 }
 
 

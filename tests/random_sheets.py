@@ -268,6 +268,36 @@ def runnable(rng):
     return "\n".join(lines), goal
 
 
+def mixed_family(rng, names, spelt, cycles):
+    """Equations that bind the variables, but for the last ones, each to a compound term of two levels around variables behind it; with cycles around any."""
+    bound = len(names) - rng.randint(1, 2)
+    equations = []
+    for at, name in enumerate(names[:bound]):
+        inner = [rng.choice(names if cycles and rng.random() < 0.4 else names[at + 1 :]) for _ in range(2)]
+        equations.append((name, spelt(*inner)))
+    return equations
+
+
+def mixed_pairs(rng):
+    """A sheet and a goal over it: terms of two families, whose levels are f and g in turn, but which begin with another of the two. So where they meet, each
+    variable stands beside a compound term, and two variables never meet; some bindings close cycles, some do not."""
+    count, cycles = rng.randint(3, 6), rng.random() < 0.4
+    ours, theirs = "ABCDEF"[:count], "PQRSTU"[:count]
+    left = mixed_family(rng, ours, lambda x, y: "f(g(%s),g(%s))" % (x, y), cycles)
+    right = mixed_family(rng, theirs, lambda x, y: "g(f(%s,%s))" % (x, y), cycles)
+    equal = ["%s = f(%s,%s)" % (rng.choice(ours[:2]), *rng.choices(theirs, k=2)) for _ in range(rng.choice((1, 1, 2)))]
+    sides = [[atom("t", list(side)) for side in zip(*family)] for family in (left, right)]
+    families = [" = ".join(pair) for pair in sides]
+    if rng.random() < 0.5:
+        goal = families + equal
+        rng.shuffle(goal)
+        return "", ", ".join(goal) + "."
+    head = atom("p", ["f(%s,%s)" % tuple(rng.choices(theirs, k=2)), *rng.choices(theirs, k=1)])
+    goal = [families[0], "p(%s,Z)" % rng.choice(ours[:2])]
+    rng.shuffle(goal)
+    return ":- mode p(*,*).\n" + clause_text(head, families[1:]), ", ".join(goal) + "."
+
+
 def damaged(rng, lines):
     """The lines with one change, which the mode rules may or may not refuse."""
     lines = list(lines)

@@ -12,6 +12,10 @@ import written
 
 SEED = 1_717
 ALLOWANCE, WANTED, ROOM = 65_536, 16, 4_096  # the runner's own
+SMALL_SHEET = 4_000  # bytes of a sheet of tests/adversary.py that is small
+LARGE_KINDS = (  # the kinds of which a large one is run too
+    "over-one-term", "over-many-terms", "light-pairs", "chains", "alternation", "leaves", "chained-alternation", "doubling",
+)
 
 # Sheets with goals; the first group is small enough for every edge.
 SMALL = [
@@ -427,10 +431,24 @@ def filled(add):
 
 
 def slow_steps(add):
-    """One step that is made to take long, of each kind: as large as a sheet can have it, and small."""
-    for kind, (_, n) in adversary.KINDS.items():
-        for size in (2, 2 * n):
-            add(*adversary.texts(kind, size))
+    """One step that is made to take long, of each kind that has small sheets; of some kinds as large as a sheet can have it, too."""
+    for name, kind in adversary.KINDS.items():
+        small = adversary.texts(name, 2)
+        if len(small[0]) < SMALL_SHEET:
+            add(*small)
+        if name in LARGE_KINDS:
+            add(*adversary.texts(name, kind.large))
+
+
+def mixed_pairs(add, rng):
+    """Variables that are met only beside compound terms, with and without cycles; half of the runs have an answer."""
+    made = 0
+    while made < 120:
+        sheet, goal = random_sheets.mixed_pairs(rng)
+        answers = engine.run(sheet.encode(), goal.encode(), ALLOWANCE, WANTED, ROOM).answers
+        if answers or rng.random() < 0.3:
+            made += 1
+            add(sheet, goal)
 
 
 def rooms(add):
@@ -534,3 +552,4 @@ def make(add, rng):
     sixty_four(add)
     by_chance(add, rng)
     single_ends(add, random.Random(SEED + 1))
+    mixed_pairs(add, random.Random(SEED + 2))

@@ -1,8 +1,9 @@
 """Compares answers and their order with SWI-Prolog under the occurs check.
 
-Random accepted sheets and goals whose run ends `done` are put to both; each
-answer is printed by both as an answer line, so that unbound variables have the
-same names.  Exit status 1 if any differ.
+Random accepted sheets and goals whose run ends `done` are put to both, and goals
+with variables that are met only beside compound terms; each answer is printed by
+both as an answer line, so that unbound variables have the same names.  Exit status
+1 if any differ.
 """
 
 import random
@@ -14,7 +15,7 @@ from pathlib import Path
 import engine
 import random_sheets
 
-SEED, TRIES = 1_972, 12_000
+SEED, TRIES, MIXED = 1_972, 12_000, 2_000
 ALLOWANCE, WANTED, ROOM = 5_000, 64, 1_000_000
 
 PRELUDE = """\
@@ -94,6 +95,12 @@ def main():
             programs.append(
                 prolog_program(number, engine.parsed_sheet(sheet), engine.parsed_goal(goal))
             )
+    rng = random.Random(SEED + 1)
+    for number in range(TRIES, TRIES + MIXED):
+        sheet, goal = (text.encode() for text in random_sheets.mixed_pairs(rng))
+        report = engine.run(sheet, goal, ALLOWANCE, WANTED, ROOM)
+        trials.append((sheet, goal, report.text.decode()))
+        programs.append(prolog_program(number, engine.parsed_sheet(sheet), engine.parsed_goal(goal)))
     with tempfile.TemporaryDirectory() as directory:
         program = Path(directory) / "program.pl"
         program.write_text("".join(programs))

@@ -1,52 +1,48 @@
 -- Laws of the whole line. Assumes nothing.
 use Prim.Native.Nat.{ℕ, ◌+◌, ◌≤◌, ◌<◌, ◌^◌, zero-le}
 use native.Mathlib.Omega.{arith}
-use mathlib.Core.Path.{◌≡◌, refl, sym, ap, ◌∙◌, subst}
+use mathlib.Core.Path.{◌≡◌, refl, sym, ap, ◌∙◌, subst, subst⁻¹}
 use mathlib.Core.Bool.{Bool, true, false}
-use mathlib.Core.List.{List, [], ◌∷◌}
-use lib.ListN.{length, get_or, replicate, length-replicate, get_or-replicate}
+use mathlib.Core.List.{List, [], ◌++◌}
+use lib.ListN.{length, set, take, length-append, get_or-append}
+use lib.Seq.{length-take-le, get_or-take}
 use Rattle.syntax.specs.Limits.{variables}
-use Rattle.run_layout.specs.Regions.{cells}
+use Rattle.run_layout.specs.Regions.{stack}
 use Rattle.syntax.specs.Quote.{bytes}
 use Rattle.syntax.specs.Terms.{Goal}
 use Rattle.words.specs.Buffers.{Appended}
-use Rattle.machine.specs.Substitution.{Variable, Binding}
-use Rattle.machine.specs.Answers.{place_of, bytes_of, all_anonymous, values_from, line}
+use Rattle.machine.specs.Substitution.{Binding}
+use Rattle.machine.specs.Answers.{bytes_of, all_anonymous, values_from, line}
 use Rattle.run_layout.specs.Nodes.{Symbol}
-use Rattle.run_layout.specs.State.{variable_of}
-use Rattle.answers.specs.Words.{number_among, Numbers}
-use Rattle.answers.specs.Telling.{Counting, SomeNumbers, Values, SomeValues, Lined}
+use Rattle.run_layout.specs.Rooms.{Clean}
+use Rattle.answers.specs.Words.{count_word}
+use Rattle.answers.specs.Telling.{Counting, Values, SomeValues, Lined}
+use Rattle.answers.proofs.NumberLaws.{numbers-none}
 use Rattle.answers.proofs.ShallowLaws.{shallow-values}
 use Rattle.std.specs.Prelude.{Option, Some, None}
 use Rattle.answers.specs.declared.Solution.{Solution}
 use Rattle.answers.specs.Fitting.{Answerable, SomeAnswerable, Fitted}
 
--- no variable is numbered yet
-number-zero : (v : Variable) → number_among v [] ≡ 0
-unfolding number_among place_of
-number-zero v = refl
+-- marks without a number, and positions that fit
+pub counting-at : {marks : List ℕ} {at : ℕ} → Clean marks → count_word < length marks → at + 400 < 2 ^ 64 → Counting (set marks count_word 0) at
+counting-at c k l = record { met = []; numbers_are = numbers-none c k; near = omega arith }
 
-numbers-none : (k : ℕ) → k ≡ cells + 1 → Numbers (replicate k 0) []
-numbers-none k e =
+-- ---- the scratch words, parted
+
+pub clean-marks : {scratch marks : List ℕ} → Clean scratch → stack ≤ length scratch → marks ≡ take stack scratch → Clean marks
+clean-marks {scratch} c l e =
+    subst⁻¹ Clean e
+    (record {
+      long = (let k : length (take stack scratch) ≡ stack = length-take-le stack scratch l in omega arith);
+      zero = λ y k. get_or-take stack scratch y 0 (omega arith) ∙ c.zero y k;
+    })
+
+pub clean-whole : {marks : List ℕ} → Clean marks → (rest : List ℕ) → Clean (marks ++ rest)
+clean-whole {marks} c rest =
     record {
-      long = length-replicate k 0 ∙ e;
-      counted = get_or-replicate k cells 0 0 (omega arith);
-      number = λ x l. get_or-replicate k x 0 0 (omega arith) ∙ sym (number-zero (variable_of x));
+      long = (let e : length (marks ++ rest) ≡ length marks + length rest = length-append marks rest in omega (arith, c.long));
+      zero = λ y l. get_or-append marks rest 0 y (omega (arith, c.long)) ∙ c.zero y l;
     }
-
-pub numbers-clear : Numbers (replicate (cells + 1) 0) []
-numbers-clear = numbers-none (cells + 1) refl
-
--- a table in which no variable is numbered, again
-no-variables : (met : List Variable) → 0 ≡ length met → met ≡ []
-no-variables [] e = refl
-no-variables (v ∷ met) e = absurd (omega arith)
-
-pub numbers-again : {numbers : List ℕ} → SomeNumbers numbers → get_or numbers cells 0 ≡ 0 → Numbers numbers []
-numbers-again {numbers} k z = subst (Numbers numbers) (no-variables k.met (sym z ∙ k.numbers_are.counted)) k.numbers_are
-
-pub counting-at : {numbers : List ℕ} {at : ℕ} → Numbers numbers [] → at + 400 < 2 ^ 64 → Counting numbers at
-counting-at k l = record { met = []; numbers_are = k; few = zero-le; near = omega arith }
 
 -- ---- the line
 

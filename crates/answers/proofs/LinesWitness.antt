@@ -3,9 +3,9 @@ use Prim.Native.Nat.{ℕ, zero, suc, ◌+◌, ◌*◌, ◌<◌}
 use native.Mathlib.Omega.{arith}
 use mathlib.Core.Path.{◌≡◌, refl}
 use mathlib.Core.List.{List, [], ◌∷◌}
-use lib.ListN.{length, get_or, replicate, length-replicate}
+use lib.ListN.{length, get_or, replicate, length-replicate, get_or-replicate}
 use Rattle.syntax.specs.Spans.{SpanInside, packed}
-use Rattle.run_layout.specs.Regions.{open_size}
+use Rattle.run_layout.specs.Regions.{open_size, stack}
 use Rattle.syntax.specs.Quote.{bytes}
 use Rattle.run_layout.specs.Nodes.{name_of_symbol}
 use Rattle.run_layout.specs.State.{word_of, bound_words}
@@ -13,18 +13,25 @@ use Rattle.run_layout.proofs.RunLayoutWitness.{symbols, table, state, witness as
 use Rattle.run_layout.specs.SymbolNames.{name_at, NamePlaced, SymbolsSpelt}
 use Rattle.answers.specs.Words.{Named}
 use Rattle.run_layout.specs.Symbols.{symbol_word}
-use Rattle.answers.specs.Telling.{Ample}
+use Rattle.run_layout.specs.Rooms.{Clean}
 use Rattle.std.proofs.Common.{Bor}
 use Rattle.answers.specs.declared.Solution.{Solution}
-use Rattle.answers.specs.Fitting.{SomeAnswerable}
+use Rattle.answers.specs.Fitting.{SomeAnswerable, Tellable}
 
--- a stack for ten bytes of room
-unfoldable pub stack : List ℕ
-stack = replicate (10 * open_size + 2 * open_size) 0
+-- scratch words for ten bytes of room
+abbrev scratch_words : ℕ
+scratch_words = stack + (10 * open_size + 2 * open_size)
 
-stack-long : length stack ≡ 10 * open_size + 2 * open_size
-unfolding stack
-stack-long = length-replicate {A = ℕ} (10 * open_size + 2 * open_size) 0
+unfoldable pub scratch : List ℕ
+scratch = replicate scratch_words 0
+
+scratch-long : length scratch ≡ scratch_words
+unfolding scratch
+scratch-long = length-replicate {A = ℕ} scratch_words 0
+
+clean : Clean scratch
+unfolding scratch
+clean = record { long = omega (arith, scratch-long); zero = λ y l. get_or-replicate scratch_words y 0 0 (omega arith) }
 
 -- the sheet `f` and the goal `X`, of one byte each: a word for the symbol, and one for the variable
 spelt : SymbolsSpelt symbols (symbol_word 0 0 1 ∷ []) (bytes "f") (bytes "X")
@@ -62,6 +69,9 @@ solution =
       count = 1;
     }
 
-pub witness : SomeAnswerable solution × Ample stack (10 * open_size + 2 * open_size)
-witness =
-    (record { ss = symbols; n = 1; is = record { store = bound; symbols_are = spelt; named = named } }, (let e : length stack ≡ 10 * open_size + 2 * open_size = stack-long in omega arith))
+pub witness : SomeAnswerable solution × Tellable scratch 10 × Clean scratch
+witness = (
+  record { ss = symbols; n = 1; is = record { store = bound; symbols_are = spelt; named = named } },
+  omega (arith, scratch-long),
+  clean,
+)

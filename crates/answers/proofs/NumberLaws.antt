@@ -19,12 +19,14 @@ use Rattle.machine.specs.Substitution.{Variable, same_variable}
 use Rattle.machine.specs.Answers.{Piece, unbound, place_of, numbered, bytes_of}
 use Rattle.machine.proofs.Tests.{variable-eq, variable-refl}
 use Rattle.run_layout.specs.State.{variable_of}
+use Rattle.run_layout.proofs.Pigeonhole.{pigeonhole}
 use Rattle.run_layout.proofs.State.{cell-eq}
+use Rattle.run_layout.specs.Rooms.{Clean}
 use Rattle.run_layout.specs.SymbolNames.{name_at, NamePlaced, symbol_name, text_of}
-use Rattle.answers.specs.Words.{number_among, Numbers}
+use Rattle.answers.specs.Words.{number_among, number_list, count_word, numbered_cell, Numbers}
 use Rattle.syntax.specs.Spans.{span_length}
 use Rattle.run_layout.specs.Symbols.{symbol_place}
-use Rattle.answers.specs.Telling.{VariableNumbered, Written, SpeltSoFar}
+use Rattle.answers.specs.Telling.{SomeNumbers, VariableNumbered, Written, SpeltSoFar}
 
 -- ---- a part of a text, by its place and length as they were taken out of a word
 
@@ -122,17 +124,18 @@ unfolding bytes_of
 bytes-new v met ps e = rw (e, bytes_of)
 
 -- it has a number
-pub number-known : (met : List Variable) (x : ℕ) (numbers : List ℕ) → x < cells → (get_or numbers x 0 ≡ 0 → ⊥) → Numbers numbers met → VariableNumbered met x numbers (get_or numbers x 0)
-number-known met x numbers l z h = go (place_of (variable_of x) 1 met) refl
+pub number-known : (met : List Variable) (x : ℕ) (numbers : List ℕ) {w : ℕ} → w ≡ get_or numbers x 0 → x < cells → (w ≡ 0 → ⊥) → Numbers numbers met
+    → VariableNumbered met x numbers w
+number-known met x numbers {w} q l z h = go (place_of (variable_of x) 1 met) refl
   where
-    go : (o : Option ℕ) → place_of (variable_of x) 1 met ≡ o → VariableNumbered met x numbers (get_or numbers x 0)
-    go none e = absurd (z (h.number x l ∙ number-none (variable_of x) met e))
+    go : (o : Option ℕ) → place_of (variable_of x) 1 met ≡ o → VariableNumbered met x numbers w
+    go none e = absurd (z (q ∙ (h.number x l ∙ number-none (variable_of x) met e)))
     go (some k) e =
+        let is_k : w ≡ k = q ∙ (h.number x l ∙ number-some (variable_of x) met k e) in
         record {
           met_after = met;
           numbers_after = h;
-          few = omega arith;
-          is = λ ps. bytes-known (variable_of x) met k ps e ∙ ap (λ (j : ℕ). numbered j (bytes_of met ps)) (sym (h.number x l ∙ number-some (variable_of x) met k e));
+          is = λ ps. bytes-known (variable_of x) met k ps e ∙ ap (λ (j : ℕ). numbered j (bytes_of met ps)) (sym is_k);
         }
 
 true-if : (b : Bool) → T b → b ≡ true
@@ -164,57 +167,285 @@ own-number x met e =
     number-some (variable_of x) (met ++ (variable_of x ∷ [])) (1 + length met) (place-append (variable_of x) (variable_of x) 1 met ∙ rw (e, same))
     ∙ (let q : 1 + length met ≡ suc (length met) = omega arith in q)
 
-module _ (numbers : List ℕ) (met : List Variable) (x new : ℕ) (l : x < cells) (free : place_of (variable_of x) 1 met ≡ none) (next : new ≡ suc (length met)) (h : Numbers numbers met) where
-  one-more : Numbers (set (set numbers x new) cells new) (met ++ (variable_of x ∷ []))
-  one-more =
-      let long : length (set (set numbers x new) cells new) ≡ cells + 1 = simp length-set h.long in
-      let len : length (set numbers x new) ≡ cells + 1 = simp length-set h.long in
-      let old : length numbers ≡ cells + 1 = h.long in
-      record {
-        long = long;
-        counted = get_or-set_same (set numbers x new) cells new 0 (omega arith) ∙ (next ∙ (let a : length (met ++ (variable_of x ∷ [])) ≡ length met + 1 = length-append met (variable_of x ∷ []) in let q : suc (length met) ≡ length (met ++ (variable_of x ∷ [])) = omega arith in q));
-        number = λ y s. get_or-set_other (set numbers x new) cells y new 0 (λ q. omega arith) ∙ go y s (omega arith) (eqb y x) refl;
-      }
+-- ---- one more cell with a number
+
+module _ (numbers : List ℕ) (met : List Variable) (h : Numbers numbers met) where
+  same-place : (i j : ℕ) → i < length met → j < length met → numbered_cell numbers i ≡ numbered_cell numbers j → i ≡ j
+  same-place i j l k e =
+      let a : get_or numbers (numbered_cell numbers i) 0 ≡ suc i = h.listed i l in
+      let b : get_or numbers (numbered_cell numbers j) 0 ≡ suc j = h.listed j k in
+      let c : get_or numbers (numbered_cell numbers i) 0 ≡ get_or numbers (numbered_cell numbers j) 0 = ap (λ (y : ℕ). get_or numbers y 0) e in
+      omega arith
+
+  few-numbered : length met ≤ cells
+  few-numbered = pigeonhole cells (length met) (numbered_cell numbers) h.cell same-place
+
+-- the table with cell x listed behind n others, and its number
+abbrev numbered_words : List ℕ → ℕ → ℕ → List ℕ
+numbered_words numbers x n = set (set (set numbers (number_list + n) x) x (n + 1)) count_word (n + 1)
+
+module _ (numbers : List ℕ) (met : List Variable) (x : ℕ) (small : x < cells) (z : get_or numbers x 0 ≡ 0) (h : Numbers numbers met) where
+  abbrev n : ℕ
+  n = length met
+
+  unlisted : (j : ℕ) → j < n → numbered_cell numbers j ≡ x → ⊥
+  unlisted j l e =
+      let a : get_or numbers (numbered_cell numbers j) 0 ≡ suc j = h.listed j l in
+      let b : get_or numbers (numbered_cell numbers j) 0 ≡ 0 = ap (λ (y : ℕ). get_or numbers y 0) e ∙ z in
+      omega arith
+
+  -- while a cell has no number there is room on the list
+  numbers-room : n < cells
+  numbers-room = let k : suc n ≤ cells = pigeonhole cells (suc n) at at-small at-apart in omega arith
     where
-      go : (y : ℕ) → y < cells → x < length numbers → (b : Bool) → eqb y x ≡ b → get_or (set numbers x new) y 0 ≡ number_among (variable_of y) (met ++ (variable_of x ∷ []))
-      go y s r true e =
-          let q : y ≡ x = eqb-true y x e in
-          subst (λ (k : ℕ). get_or (set numbers x new) k 0 ≡ number_among (variable_of k) (met ++ (variable_of x ∷ []))) (sym q) (get_or-set_same numbers x new 0 r ∙ (next ∙ sym (own-number x met free)))
-      go y s r false e =
+      pick : Bool → ℕ → ℕ
+      pick true j = x
+      pick false j = numbered_cell numbers j
+
+      at : ℕ → ℕ
+      at j = pick (eqb j n) j
+
+      before : (j : ℕ) → j < suc n → eqb j n ≡ false → j < n
+      before j l e = let q : j ≡ n → ⊥ = eqb-false j n e in omega (arith, q)
+
+      at-small : (j : ℕ) → j < suc n → at j < cells
+      at-small j l = go (eqb j n) refl
+        where
+          go : (b : Bool) → eqb j n ≡ b → pick b j < cells
+          go true e = small
+          go false e = h.cell j (before j l e)
+
+      at-apart : (i j : ℕ) → i < suc n → j < suc n → at i ≡ at j → i ≡ j
+      at-apart i j l k e = go (eqb i n) refl (eqb j n) refl e
+        where
+          go : (a : Bool) → eqb i n ≡ a → (b : Bool) → eqb j n ≡ b → pick a i ≡ pick b j → i ≡ j
+          go true p true q r = eqb-true i n p ∙ sym (eqb-true j n q)
+          go true p false q r = absurd (unlisted j (before j k q) (sym r))
+          go false p true q r = absurd (unlisted i (before i l p) r)
+          go false p false q r = same-place numbers met h i j (before i l p) (before j k q) r
+
+  abbrev listing : List ℕ
+  listing = set numbers (number_list + n) x
+
+  abbrev marking : List ℕ
+  marking = set listing x (n + 1)
+
+  abbrev after : List ℕ
+  after = numbered_words numbers x n
+
+  listing-long : length listing ≡ length numbers
+  listing-long = simp length-set refl
+
+  marking-long : length marking ≡ length numbers
+  marking-long = simp length-set refl
+
+  after-long : length after ≡ length numbers
+  after-long = simp length-set refl
+
+  after-count : get_or after count_word 0 ≡ n + 1
+  after-count = get_or-set_same marking count_word (n + 1) 0 (omega (arith, marking-long, h.long))
+
+  own-mark : get_or after x 0 ≡ n + 1
+  own-mark = get_or-set_other marking count_word x (n + 1) 0 (λ q. omega arith) ∙ get_or-set_same listing x (n + 1) 0 (omega (arith, listing-long, h.long))
+
+  other-mark : (y : ℕ) → y < cells → (y ≡ x → ⊥) → get_or after y 0 ≡ get_or numbers y 0
+  other-mark y l d =
+      get_or-set_other marking count_word y (n + 1) 0 (λ q. omega arith)
+      ∙ (get_or-set_other listing x y (n + 1) 0 d ∙ get_or-set_other numbers (number_list + n) y x 0 (λ q. omega arith))
+
+  own-place : numbered_cell after n ≡ x
+  own-place =
+      get_or-set_other marking count_word (number_list + n) (n + 1) 0 (λ q. omega (arith, numbers-room))
+      ∙ (get_or-set_other listing x (number_list + n) (n + 1) 0 (λ q. omega arith)
+      ∙ get_or-set_same numbers (number_list + n) x 0 (omega (arith, numbers-room, h.long)))
+
+  other-place : (j : ℕ) → j < n → numbered_cell after j ≡ numbered_cell numbers j
+  other-place j l =
+      get_or-set_other marking count_word (number_list + j) (n + 1) 0 (λ q. omega (arith, numbers-room))
+      ∙ (get_or-set_other listing x (number_list + j) (n + 1) 0 (λ q. omega arith)
+      ∙ get_or-set_other numbers (number_list + n) (number_list + j) x 0 (λ q. omega arith))
+
+  -- of the first n + 1 cells listed, the last or another
+  last-or : (P : ℕ → Type 0) → P n → ((j : ℕ) → j < n → P j) → (j : ℕ) → j < n + 1 → P j
+  last-or P last others j l = go (eqb j n) refl
+    where
+      go : (b : Bool) → eqb j n ≡ b → P j
+      go true e = subst P (sym (eqb-true j n e)) last
+      go false e = let d : j ≡ n → ⊥ = eqb-false j n e in others j (omega (arith, d))
+
+  after-cell : (j : ℕ) → j < n + 1 → numbered_cell after j < cells
+  after-cell = last-or (λ (i : ℕ). numbered_cell after i < cells) (rw own-place small) (λ i k. rw (other-place i k) (h.cell i k))
+
+  after-listed : (j : ℕ) → j < n + 1 → get_or after (numbered_cell after j) 0 ≡ suc j
+  after-listed = last-or (λ (i : ℕ). get_or after (numbered_cell after i) 0 ≡ suc i) last others
+    where
+      last : get_or after (numbered_cell after n) 0 ≡ suc n
+      last = ap (λ (y : ℕ). get_or after y 0) own-place ∙ (own-mark ∙ (let q : n + 1 ≡ suc n = omega arith in q))
+
+      others : (i : ℕ) → i < n → get_or after (numbered_cell after i) 0 ≡ suc i
+      others i k =
+          ap (λ (y : ℕ). get_or after y 0) (other-place i k)
+          ∙ (other-mark (numbered_cell numbers i) (h.cell i k) (unlisted i k) ∙ h.listed i k)
+
+  after-only : (m : ℕ) → m ≡ n + 1 → (y : ℕ) → y < cells → (get_or after y 0 ≡ 0 → ⊥) → (j : ℕ) × (j < m) × (numbered_cell after j ≡ y)
+  after-only m f y l s = go (eqb y x) refl
+    where
+      go : (b : Bool) → eqb y x ≡ b → (j : ℕ) × (j < m) × (numbered_cell after j ≡ y)
+      go true e = (n, omega arith, own-place ∙ sym (eqb-true y x e))
+      go false e =
           let d : y ≡ x → ⊥ = eqb-false y x e in
-          get_or-set_other numbers x y new 0 d ∙ (h.number y s ∙ sym (other-stays x y met d))
+          let o : (j : ℕ) × (j < n) × (numbered_cell numbers j ≡ y) = h.only y l (λ q. s (other-mark y l d ∙ q)) in
+          (o.0, omega (arith, o.1), other-place o.0 o.1 ∙ o.2)
+
+  module _ (free : place_of (variable_of x) 1 met ≡ none) where
+    abbrev met-after : List Variable
+    met-after = met ++ (variable_of x ∷ [])
+
+    one-longer : length met-after ≡ n + 1
+    one-longer = length-append met (variable_of x ∷ [])
+
+    after-number : (y : ℕ) → y < cells → get_or after y 0 ≡ number_among (variable_of y) met-after
+    after-number y l = go (eqb y x) refl
+      where
+        go : (b : Bool) → eqb y x ≡ b → get_or after y 0 ≡ number_among (variable_of y) met-after
+        go true e =
+            subst (λ (k : ℕ). get_or after k 0 ≡ number_among (variable_of k) met-after) (sym (eqb-true y x e))
+            (own-mark ∙ ((let q : n + 1 ≡ suc n = omega arith in q) ∙ sym (own-number x met free)))
+        go false e = let d : y ≡ x → ⊥ = eqb-false y x e in other-mark y l d ∙ (h.number y l ∙ sym (other-stays x y met d))
+
+    one-more : Numbers after met-after
+    one-more =
+        record {
+          long = omega (arith, after-long, h.long);
+          counted = after-count ∙ sym one-longer;
+          number = after-number;
+          cell = λ j l. after-cell j (omega (arith, one-longer));
+          listed = λ j l. after-listed j (omega (arith, one-longer));
+          only = after-only (length met-after) one-longer;
+        }
+
+abbrev NextNumbered : List Variable → ℕ → List ℕ → ℕ → Type 0
+NextNumbered met x numbers n = VariableNumbered met x (numbered_words numbers x n) (n + 1)
 
 -- it gets the next one
-pub number-new : (met : List Variable) (x : ℕ) (numbers : List ℕ) → x < cells → get_or numbers x 0 ≡ 0 → Numbers numbers met
-    → VariableNumbered met x (set (set numbers x (get_or numbers cells 0 + 1)) cells (get_or numbers cells 0 + 1)) (get_or numbers cells 0 + 1)
+pub number-new : (met : List Variable) (x : ℕ) (numbers : List ℕ) {w n : ℕ} → w ≡ get_or numbers x 0 → n ≡ get_or numbers count_word 0 → x < cells → w ≡ 0
+    → Numbers numbers met → NextNumbered met x numbers n
 unfolding AtLeast
-number-new met x numbers l z h = go (place_of (variable_of x) 1 met) refl (place-least (variable_of x) 1 met)
+number-new met x numbers {w} {n} q c l z h =
+    subst⁻¹ (NextNumbered met x numbers) (c ∙ h.counted) (go (place_of (variable_of x) 1 met) refl (place-least (variable_of x) 1 met))
   where
-    go : (o : Option ℕ) → place_of (variable_of x) 1 met ≡ o → AtLeast 1 (place_of (variable_of x) 1 met) → VariableNumbered met x (set (set numbers x (get_or numbers cells 0 + 1)) cells (get_or numbers cells 0 + 1)) (get_or numbers cells 0 + 1)
-    go (some k) e s = absurd (let a : 1 ≤ k = rw e at s in let b : get_or numbers x 0 ≡ k = h.number x l ∙ number-some (variable_of x) met k e in omega arith)
+    go : (o : Option ℕ) → place_of (variable_of x) 1 met ≡ o → AtLeast 1 (place_of (variable_of x) 1 met) → NextNumbered met x numbers (length met)
+    go (some k) e s =
+        let a : 1 ≤ k = rw e at s in
+        let b : get_or numbers x 0 ≡ k = h.number x l ∙ number-some (variable_of x) met k e in
+        absurd (omega arith)
     go none e s =
-        let c : get_or numbers cells 0 ≡ length met = h.counted in
-        let next : get_or numbers cells 0 + 1 ≡ suc (length met) = omega arith in
+        let next : length met + 1 ≡ suc (length met) = omega arith in
         record {
           met_after = met ++ (variable_of x ∷ []);
-          numbers_after = one-more numbers met x (get_or numbers cells 0 + 1) l e next h;
-          few = (let a : length (met ++ (variable_of x ∷ [])) ≡ length met + 1 = length-append met (variable_of x ∷ []) in omega arith);
+          numbers_after = one-more numbers met x l (sym q ∙ z) h e;
           is = λ ps. bytes-new (variable_of x) met ps e ∙ ap (λ (j : ℕ). numbered j (bytes_of (met ++ (variable_of x ∷ [])) ps)) (sym next);
         }
+
+-- a cell without a number finds room on the list
+pub number-room : {numbers : List ℕ} {x w n : ℕ} → SomeNumbers numbers → w ≡ get_or numbers x 0 → n ≡ get_or numbers count_word 0 → x < cells → w ≡ 0
+    → n < cells
+number-room {numbers} {x} s q c l z =
+    let a : get_or numbers count_word 0 ≡ length s.met = s.numbers_are.counted in
+    let d : length s.met < cells = numbers-room numbers s.met x l (sym q ∙ z) s.numbers_are in
+    omega arith
+
+-- ---- the numbers taken back
+
+-- Of so many cells listed the first i have no mark; the list is as it was.
+pub record Unmarked (before : List ℕ) (count i : ℕ) (now : List ℕ) : Type 0 where
+  pub list : (j : ℕ) → j < count → numbered_cell now j ≡ numbered_cell before j
+  pub only : (x : ℕ) → x < cells → (get_or now x 0 ≡ 0 → ⊥) → (j : ℕ) × (i ≤ j) × (j < count) × (numbered_cell before j ≡ x)
+
+module _ {before : List ℕ} {count : ℕ} (s : SomeNumbers before) (c : count ≡ get_or before count_word 0) where
+  as-many : count ≡ length s.met
+  as-many = c ∙ s.numbers_are.counted
+
+  pub unmark-few : count ≤ cells
+  unmark-few = omega (arith, few-numbered before s.met s.numbers_are, as-many)
+
+  pub unmark-start : Unmarked before count 0 before
+  unmark-start = record { list = λ j l. refl; only = λ x l z. from (s.numbers_are.only x l z) }
+    where
+      from : {x : ℕ} → ((j : ℕ) × (j < length s.met) × (numbered_cell before j ≡ x)) → (j : ℕ) × (0 ≤ j) × (j < count) × (numbered_cell before j ≡ x)
+      from o = (o.0, omega arith, omega (arith, o.1, as-many), o.2)
+
+  module _ {i x : ℕ} {now : List ℕ} (low : i < count) (u : Unmarked before count i now) (at : x ≡ numbered_cell now i) where
+    at-before : x ≡ numbered_cell before i
+    at-before = at ∙ u.list i low
+
+    pub unmark-cell : x < cells
+    unmark-cell = omega (arith, s.numbers_are.cell i (omega (arith, as-many)), at-before)
+
+    pub unmark-next : count_word < length now → Unmarked before count (i + 1) (set now x 0)
+    unmark-next long =
+        record {
+          list = λ j l. get_or-set_other now x (number_list + j) 0 0 (λ q. omega (arith, unmark-cell)) ∙ u.list j l;
+          only = λ y l z. go y l z (eqb y x) refl;
+        }
+      where
+        own : get_or (set now x 0) x 0 ≡ 0
+        own = get_or-set_same now x 0 0 (omega (arith, unmark-cell))
+
+        go : (y : ℕ) → y < cells → (get_or (set now x 0) y 0 ≡ 0 → ⊥) → (b : Bool) → eqb y x ≡ b
+            → (j : ℕ) × (i + 1 ≤ j) × (j < count) × (numbered_cell before j ≡ y)
+        go y l z true e = absurd (z (ap (λ (k : ℕ). get_or (set now x 0) k 0) (eqb-true y x e) ∙ own))
+        go y l z false e =
+            let d : y ≡ x → ⊥ = eqb-false y x e in
+            let o : (j : ℕ) × (i ≤ j) × (j < count) × (numbered_cell before j ≡ y) = u.only y l (λ q. z (get_or-set_other now x y 0 0 d ∙ q)) in
+            let apart : o.0 ≡ i → ⊥ = (λ q. d (sym o.3 ∙ (ap (numbered_cell before) q ∙ sym at-before))) in
+            (o.0, omega (arith, o.1, apart), o.2, o.3)
+
+  pub unmark-end : {i : ℕ} {now : List ℕ} → count_word < length now → count ≤ i → Unmarked before count i now → Clean now
+  unmark-end {i} {now} long h u = record { long = omega arith; zero = λ y l. go y l (eqb (get_or now y 0) 0) refl }
+    where
+      go : (y : ℕ) → y < cells → (b : Bool) → eqb (get_or now y 0) 0 ≡ b → get_or now y 0 ≡ 0
+      go y l true e = eqb-true (get_or now y 0) 0 e
+      go y l false e =
+          let o : (j : ℕ) × (i ≤ j) × (j < count) × (numbered_cell before j ≡ y) = u.only y l (eqb-false (get_or now y 0) 0 e) in
+          absurd (omega (arith, o.1, o.2))
+
+-- ---- marks without a number
+
+number-zero : (v : Variable) → number_among v [] ≡ 0
+unfolding number_among place_of
+number-zero v = refl
+
+none-before : (j : ℕ) → j < 0 → ⊥
+none-before j l = omega arith
+
+pub numbers-none : {marks : List ℕ} → Clean marks → count_word < length marks → Numbers (set marks count_word 0) []
+numbers-none {marks} c l =
+    record {
+      long = (let e : length (set marks count_word 0) ≡ length marks = simp length-set refl in omega arith);
+      counted = get_or-set_same marks count_word 0 0 l;
+      number = λ x k. zero x k ∙ sym (number-zero (variable_of x));
+      cell = λ j k. absurd (none-before j k);
+      listed = λ j k. absurd (none-before j k);
+      only = λ x k z. absurd (z (zero x k));
+    }
+  where
+    zero : (x : ℕ) → x < cells → get_or (set marks count_word 0) x 0 ≡ 0
+    zero x k = get_or-set_other marks count_word x 0 0 (λ q. omega arith) ∙ c.zero x k
 
 -- ---- decimals
 
 -- an unbound variable: an underscore, then its number
-pub unbound-told : (met : List Variable) (x : ℕ) {r m : ℕ} {mid : List ℕ} {from to : Written} → length met ≤ from.at → VariableNumbered met x to.numbers r → Appended from.out from.at (95 ∷ []) mid m → Appended mid m (decimal r) to.out to.at
+pub unbound-told : (met : List Variable) (x : ℕ) {r m : ℕ} {mid : List ℕ} {from to : Written} → VariableNumbered met x to.numbers r
+    → Appended from.out from.at (95 ∷ []) mid m → Appended mid m (decimal r) to.out to.at
     → (ps : List Piece) → SpeltSoFar (bytes_of met (unbound (variable_of x) ∷ ps)) from to ps
 unfolding numbered
-unbound-told met x {r} {m} {from = from} {to} few n p q ps =
+unbound-told met x {r} n p q ps =
     record {
       words = (95 ∷ []) ++ decimal r;
       put = then p q;
       met = n.met_after;
       numbers_are = n.numbers_after;
-      few = (let a : m ≡ from.at + 1 = p.past in let b : to.at ≡ m + length (decimal r) = q.past in let k : length n.met_after ≤ length met + 1 = n.few in omega arith);
       is = n.is ps;
     }
 

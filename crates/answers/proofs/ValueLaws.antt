@@ -27,7 +27,7 @@ use Rattle.answers.specs.Words.{Numbers, left_to_spell, depth, Named}
 use Rattle.answers.specs.Telling.{Written, written, SpeltSoFar, Ample, Counting, SomeNumbers, Setting, SomeSetting, Facing, Walk, Spelling, SpeltToLimit, Lined, Valued, SomeValued, Values, SomeValues, value_in, gap, bindings_of, names_of}
 use Rattle.answers.specs.declared.Solution.{Solution}
 use Rattle.answers.specs.declared.values.SpeltVariable.{SpeltVariable}
-use Rattle.answers.proofs.WalkLaws.{told-whole, told-words, told-after, told-then, few-met, bytes-written, walked-told}
+use Rattle.answers.proofs.WalkLaws.{told-whole, told-words, told-after, told-then, bytes-written, walked-told}
 
 -- ---- `_`
 
@@ -106,6 +106,7 @@ walked-after {whole} {from} {mid} {ps = ps} limit t w =
     record {
       done = λ l. told-then t (w.done l);
       over = λ l. let a : limit < mid.at + length (bytes_of t.met ps) = w.over l in let b : mid.at ≡ from.at + length t.words = t.put.past in let c : length whole ≡ length (t.words ++ bytes_of t.met ps) = ap length t.is in let d : length (t.words ++ bytes_of t.met ps) ≡ length t.words + length (bytes_of t.met ps) = length-append t.words (bytes_of t.met ps) in omega arith;
+      numbers_are = w.numbers_are;
     }
 
 -- ---- a variable's value
@@ -190,7 +191,7 @@ module _ {sol : Solution} {stack : List ℕ} {i w : ℕ} {from : Written} (v : S
   value-setting = record { ss = v.ss; n = v.n; is = record { store = v.is.setting.store; names = v.is.setting.names; rows = first.rows } }
 
   pub value-counting : to.text.at + 100 < 2 ^ 64 → Counting to.text.numbers to.text.at
-  value-counting l = record { met = first.told.met; numbers_are = first.told.numbers_are; few = first.told.few; near = l }
+  value-counting l = record { met = first.told.met; numbers_are = first.told.numbers_are; near = l }
 
 pub nearer : (limit : ℕ) {at m r : ℕ} → (at ≤ m) × (m ≤ at + word_bytes) → (m ≤ r) × ((r ≤ limit + (word_bytes + 1)) ⊎ (r ≡ m)) → (at ≤ r) × ((r ≤ limit + (word_bytes + 1)) ⊎ (r ≤ at + word_bytes))
 nearer limit {at} {m} {r} a b = (omega (arith, a.0, b.0), go b.1)
@@ -219,10 +220,11 @@ bytes-three met f g h ps =
     ∙ (ap (λ (l : List ℕ). f ++ l) (bytes-written met g (bytes_then h ps) ∙ ap (λ (l : List ℕ). g ++ l) (bytes-written met h ps))
     ∙ (ap (λ (l : List ℕ). f ++ l) (sym (append_assoc g h (bytes_of met ps))) ∙ sym (append_assoc f (g ++ h) (bytes_of met ps))))
 
-pub binding-skip : (b : List Binding) (i : ℕ) (more : Bool) (w limit : ℕ) (goal : List ℕ) (xs : List (List ℕ)) (met : List Variable) {from : Written} {r : Bool} → r ≡ is_anonymous (spanned goal w) → r ≡ true → Counting from.numbers from.at → Numbers from.numbers met
+pub binding-skip : (b : List Binding) (i : ℕ) (more : Bool) (w limit : ℕ) (goal : List ℕ) (xs : List (List ℕ)) (met : List Variable) {from : Written} {r : Bool}
+    → r ≡ is_anonymous (spanned goal w) → r ≡ true → Numbers from.numbers met
     → SpeltToLimit limit (bytes_of met (values_from b i (gap more) (spanned goal w ∷ xs))) from from (values_from b (suc i) (gap more) xs)
-binding-skip b i more w limit goal xs met {from} e t k n =
-    walked-told limit (told-words met [] n (few-met k n) (nothing from.out from.at) (ap (bytes_of met) (values-skip b i (gap more) (spanned goal w) xs (sym e ∙ t))))
+binding-skip b i more w limit goal xs met {from} e t n =
+    walked-told limit (told-words met [] n (nothing from.out from.at) (ap (bytes_of met) (values-skip b i (gap more) (spanned goal w) xs (sym e ∙ t))))
 
 pub binding-give : (b : List Binding) (i : ℕ) (more : Bool) (w limit : ℕ) (goal : List ℕ) (xs : List (List ℕ)) (met : List Variable) {from mid to : Written} {r : Bool} → r ≡ is_anonymous (spanned goal w) → r ≡ false
     → Appended from.out from.at (gap more ++ (spanned goal w ++ bytes " = ")) mid.out mid.at
@@ -234,6 +236,7 @@ binding-give b i more w limit goal xs met {from} {mid} e t p v =
     record {
       done = λ l. told-after met (spelt (value_in b i) (values_from b (suc i) (bytes ", ") xs)) p is (v.done l);
       over = λ l. let a : limit < mid.at + length (bytes_of met (spelt (value_in b i) (values_from b (suc i) (bytes ", ") xs))) = v.over l in let d : mid.at ≡ from.at + length (gap more ++ (spanned goal w ++ bytes " = ")) = p.past in let f : length (bytes_of met (values_from b i (gap more) (spanned goal w ∷ xs))) ≡ length ((gap more ++ (spanned goal w ++ bytes " = ")) ++ bytes_of met (spelt (value_in b i) (values_from b (suc i) (bytes ", ") xs))) = ap length is in let g : length ((gap more ++ (spanned goal w ++ bytes " = ")) ++ bytes_of met (spelt (value_in b i) (values_from b (suc i) (bytes ", ") xs))) ≡ length (gap more ++ (spanned goal w ++ bytes " = ")) + length (bytes_of met (spelt (value_in b i) (values_from b (suc i) (bytes ", ") xs))) = length-append (gap more ++ (spanned goal w ++ bytes " = ")) (bytes_of met (spelt (value_in b i) (values_from b (suc i) (bytes ", ") xs))) in omega arith;
+      numbers_are = v.numbers_are;
     }
 
 pub nearer-value : (limit : ℕ) {at m r : ℕ} → (at ≤ m) × (m ≤ at + (word_bytes + 5)) → (m ≤ r) × ((r ≤ limit + (word_bytes + 1)) ⊎ (r ≤ m + word_bytes)) → (at ≤ r) × ((r ≤ limit + (word_bytes + 1)) ⊎ (r ≤ at + (2 * word_bytes + 5)))
@@ -271,10 +274,10 @@ valued {sol = sol} {i = i} v e l =
     }
 
 module _ {sol : Solution} {stack₀ : List ℕ} {from : Written} {limit : ℕ} where
-  pub listing_none : Counting from.numbers from.at → Listing sol stack₀ from limit from.numbers from.out (record { at = from.at; more = false }) 0
-  listing_none k ss n met v h =
+  pub listing_none : Listing sol stack₀ from limit from.numbers from.out (record { at = from.at; more = false }) 0
+  listing_none ss n met v h =
       let e : sol.count - 0 ≡ sol.count = omega arith in
-      walked-told limit (told-words met [] h (few-met k h) (nothing from.out from.at)
+      walked-told limit (told-words met [] h (nothing from.out from.at)
       (ap (λ (j : ℕ). bytes_of met (values_from (bindings_of ss n sol) 0 [] (names_from sol.goal.now sol.names.now 0 j))) (sym e)))
 
   module _ (listed : SpeltVariable) (i : ℕ) {numbers out : List ℕ} (g : Listing sol stack₀ from limit numbers out listed i) where
@@ -284,14 +287,10 @@ module _ {sol : Solution} {stack₀ : List ℕ} {from : Written} {limit : ℕ} w
     pub listing-counting : SomeValues sol stack₀ → Counting from.numbers from.at → listed.at ≤ limit → listed.at + 100 < 2 ^ 64 → Counting numbers listed.at
     listing-counting s k l f =
         let t = (g s.ss s.n k.met s.is k.numbers_are).done l in
-        record { met = t.met; numbers_are = t.numbers_are; few = t.few; near = f }
+        record { met = t.met; numbers_are = t.numbers_are; near = f }
 
-    -- the variables numbered at the end, where the limit is not passed
-    pub listing-counted : {new : List ℕ} {next : ℕ} → SomeValues sol stack₀ → Counting from.numbers from.at → listed.at + 100 < 2 ^ 64 → Appended out listed.at (10 ∷ []) new next → next ≤ limit → SomeNumbers numbers
-    listing-counted {next = next} s k f p l =
-        let a : next ≡ listed.at + 1 = p.past in
-        let t : Counting numbers listed.at = listing-counting s k (omega arith) f in
-        record { met = t.met; numbers_are = t.numbers_are }
+    pub listing-numbers : SomeValues sol stack₀ → Counting from.numbers from.at → SomeNumbers numbers
+    listing-numbers s k = (g s.ss s.n k.met s.is k.numbers_are).numbers_are
 
     pub listing-next : {stack numbers₁ out₁ : List ℕ} (listed₁ : SpeltVariable) {w : ℕ} → length stack ≡ length stack₀ → i < sol.count → w ≡ get_or sol.names.now i 0 → listed.at ≤ limit
         → ((ss : List Symbol) (n : ℕ) (met : List Variable) (xs : List (List ℕ)) → Valued ss n sol stack i → Numbers numbers met

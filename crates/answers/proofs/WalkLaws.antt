@@ -10,7 +10,7 @@ use lib.ListN.{length, get_or, set, length-set, length-append}
 use lib.Seq.{get_or-set_same, get_or-set_other}
 use borrow.Author.Tests.{eqb-true, eqb-false, eq-eqb, ne_eqb}
 use Rattle.syntax.specs.Words.{first_name}
-use Rattle.run_layout.specs.Regions.{copies, copy_cells, cells, places, deepest, open_size, loaded_node}
+use Rattle.run_layout.specs.Regions.{copies, copy_cells, places, deepest, open_size, loaded_node}
 use Rattle.syntax.specs.Terms.{Term, variable, compound, arity}
 use Rattle.words.specs.Buffers.{Appended}
 use Rattle.words.proofs.BuffersLaws.{then, nothing}
@@ -146,10 +146,9 @@ unfolding spelt
 spelt-name f ts ps = refl
 
 -- some bytes of the whole told
-pub told-words : (met : List Variable) (ws : List ℕ) {whole : List ℕ} {from to : Written} {ps : List Piece} → Numbers to.numbers met → length met ≤ from.at → Appended from.out from.at ws to.out to.at → whole ≡ ws ++ bytes_of met ps
-    → SpeltSoFar whole from to ps
-told-words met ws {from = from} {to} n few p e =
-    record { words = ws; put = p; met = met; numbers_are = n; few = (let a : to.at ≡ from.at + length ws = p.past in omega arith); is = e }
+pub told-words : (met : List Variable) (ws : List ℕ) {whole : List ℕ} {from to : Written} {ps : List Piece} → Numbers to.numbers met
+    → Appended from.out from.at ws to.out to.at → whole ≡ ws ++ bytes_of met ps → SpeltSoFar whole from to ps
+told-words met ws n p e = record { words = ws; put = p; met = met; numbers_are = n; is = e }
 
 -- one part of the whole after another
 pub told-then : {whole : List ℕ} {from mid to : Written} {ps qs : List Piece} → (t : SpeltSoFar whole from mid ps) → SpeltSoFar (bytes_of t.met ps) mid to qs → SpeltSoFar whole from to qs
@@ -159,7 +158,6 @@ told-then t u =
       put = then t.put u.put;
       met = u.met;
       numbers_are = u.numbers_are;
-      few = u.few;
       is = t.is ∙ (ap (λ (l : List ℕ). t.words ++ l) u.is ∙ sym (append_assoc t.words u.words (bytes_of u.met _)));
     }
 
@@ -226,24 +224,24 @@ module _ {ss : List Symbol} {b : List Binding} {sol : Solution} {stack : List �
       }
 
   -- a name: its bytes, and its arguments are left
-  name-told : (met : List Variable) (k : ℕ) {from to : Written} (ps : List Piece) → first_name ≤ get_or sol.nodes.now p 0 → k ≡ get_or sol.nodes.now p 0 - first_name → Numbers to.numbers met → length met ≤ from.at
+  name-told : (met : List Variable) (k : ℕ) {from to : Written} (ps : List Piece) → first_name ≤ get_or sol.nodes.now p 0 → k ≡ get_or sol.nodes.now p 0 - first_name → Numbers to.numbers met
       → Appended from.out from.at (name_at sol.symbols.now sol.sheet.now sol.goal.now k) to.out to.at → SpeltSoFar (bytes_of met (spelt (resolve b (term_at ss sol.nodes.now p c)) ps)) from to (spelt_args (resolved_all b args) ps)
-  name-told met k ps l e n few put =
-      told-words met (name_at sol.symbols.now sol.sheet.now sol.goal.now k) n few put
+  name-told met k ps l e n put =
+      told-words met (name_at sol.symbols.now sol.sheet.now sol.goal.now k) n put
       (ap (λ (s : RTerm). bytes_of met (spelt s ps)) (head-is l)
       ∙ (ap (bytes_of met) (spelt-name (name_of_symbol ss (get_or sol.nodes.now p 0 - first_name)) (resolved_all b args) ps)
       ∙ (bytes-written met (name_of_symbol ss (get_or sol.nodes.now p 0 - first_name)) (spelt_args (resolved_all b args) ps)
       ∙ ap (λ (f : List ℕ). f ++ bytes_of met (spelt_args (resolved_all b args) ps)) (sym (head-name k l e)))))
 
-  pub head-leaf : {met : List Variable} {k : ℕ} {from to : Written} {rest : List Piece} → first_name ≤ get_or sol.nodes.now p 0 → k ≡ get_or sol.nodes.now p 0 - first_name → get_or sol.nodes.now (p + 1) 0 ≡ 2 → Numbers to.numbers met → length met ≤ from.at
+  pub head-leaf : {met : List Variable} {k : ℕ} {from to : Written} {rest : List Piece} → first_name ≤ get_or sol.nodes.now p 0 → k ≡ get_or sol.nodes.now p 0 - first_name → get_or sol.nodes.now (p + 1) 0 ≡ 2 → Numbers to.numbers met
       → Appended from.out from.at (name_at sol.symbols.now sol.sheet.now sol.goal.now k) to.out to.at
       → Spelling ss sol.nodes.now b (bytes_of met (spelt (resolve b (term_at ss sol.nodes.now p c)) (left_to_spell ss sol.nodes.now b stack height rest))) from (record { text = to; stack = stack; height = height }) rest
   unfolding args resolved_all spelt_args
-  head-leaf {met} {k} {rest = rest} l e z n few put =
+  head-leaf {met} {k} {rest = rest} l e z n put =
       let r : Row ss sol.nodes.now (p + loaded_node) (p + get_or sol.nodes.now (p + 1) 0) = compound-row ss sol.nodes.now p h.node l in
       let none : args ≡ rnil = row-none ss sol.nodes.now (p + loaded_node) (p + get_or sol.nodes.now (p + 1) 0) r c (omega arith) in
       record {
-        told = told-rest (ap (λ (ts : RTerms). spelt_args (resolved_all b ts) (left_to_spell ss sol.nodes.now b stack height rest)) none) (name-told met k (left_to_spell ss sol.nodes.now b stack height rest) l e n few put);
+        told = told-rest (ap (λ (ts : RTerms). spelt_args (resolved_all b ts) (left_to_spell ss sol.nodes.now b stack height rest)) none) (name-told met k (left_to_spell ss sol.nodes.now b stack height rest) l e n put);
         rows = h.rows;
       }
 
@@ -256,11 +254,11 @@ module _ {ss : List Symbol} {b : List Binding} {sol : Solution} {stack : List �
       let w : row_copy (span_word (p + get_or sol.nodes.now (p + 1) 0) c) ≡ c = omega arith in
       record { row = rw (x, y) (compound-row ss sol.nodes.now p h.node l); opened = λ q. rw (x, y) (opens z); shallow = rw (x, y, w) (args-shallow l) }
 
-  pub head-open : {met : List Variable} {k last : ℕ} {from to : Written} {after : List ℕ} {rest : List Piece} → first_name ≤ get_or sol.nodes.now p 0 → k ≡ get_or sol.nodes.now p 0 - first_name → (get_or sol.nodes.now (p + 1) 0 ≡ loaded_node → ⊥) → Numbers to.numbers met → length met ≤ from.at
+  pub head-open : {met : List Variable} {k last : ℕ} {from to : Written} {after : List ℕ} {rest : List Piece} → first_name ≤ get_or sol.nodes.now p 0 → k ≡ get_or sol.nodes.now p 0 - first_name → (get_or sol.nodes.now (p + 1) 0 ≡ loaded_node → ⊥) → Numbers to.numbers met
       → Appended from.out from.at (name_at sol.symbols.now sol.sheet.now sol.goal.now k) to.out to.at → last ≡ p + get_or sol.nodes.now (p + 1) 0 → after ≡ set (set stack (height * open_size) (new_row (p + loaded_node))) (height * open_size + 1) (span_word last c)
       → Spelling ss sol.nodes.now b (bytes_of met (spelt (resolve b (term_at ss sol.nodes.now p c)) (left_to_spell ss sol.nodes.now b stack height rest))) from (record { text = to; stack = after; height = height + 1 }) rest
   unfolding args
-  head-open {met} {k} {after = after} {rest} l e z n few put m s =
+  head-open {met} {k} {after = after} {rest} l e z n put m s =
       let pushed : Pushed stack height (new_row (p + loaded_node)) (span_word (p + get_or sol.nodes.now (p + 1) 0) c) after = put-pushed stack after height (new_row (p + loaded_node)) (span_word (p + get_or sol.nodes.now (p + 1) 0) c) (head-room l z) (s ∙ ap (λ (j : ℕ). set (set stack (height * open_size) (new_row (p + loaded_node))) (height * open_size + 1) (span_word j c)) m) in
       let x : row_place (new_row (p + loaded_node)) ≡ p + loaded_node = omega arith in
       let x0 : row_more (new_row (p + loaded_node)) ≡ false = ne_eqb (new_row (p + loaded_node) % 2) 1 (λ e. omega arith) in
@@ -269,15 +267,7 @@ module _ {ss : List Symbol} {b : List Binding} {sol : Solution} {stack : List �
       let w : row_copy (span_word (p + get_or sol.nodes.now (p + 1) 0) c) ≡ c = omega arith in
       let rows : Rows ss sol.nodes.now b after (suc height) = rows_pushed ss sol.nodes.now b stack after height (new_row (p + loaded_node)) (span_word (p + get_or sol.nodes.now (p + 1) 0) c) h.rows pushed (head-room l z) (row-standing l z) in
       let is : left_to_spell ss sol.nodes.now b after (suc height) rest ≡ spelt_args (resolved_all b args) (left_to_spell ss sol.nodes.now b stack height rest) = left-pushed ss sol.nodes.now b stack after height (new_row (p + loaded_node)) (span_word (p + get_or sol.nodes.now (p + 1) 0) c) pushed rest ∙ rw (x, x0, y, w) in
-      rw (add-one height) (record { told = told-rest (sym is) (name-told met k (left_to_spell ss sol.nodes.now b stack height rest) l e n few put); rows = rows })
-
--- those met are as many as the table counts
-pub few-met : {numbers : List ℕ} {at : ℕ} {met : List Variable} → Counting numbers at → Numbers numbers met → length met ≤ at
-few-met {numbers} {at} {met} k n =
-    let a : get_or numbers cells 0 ≡ length k.met = k.numbers_are.counted in
-    let d : get_or numbers cells 0 ≡ length met = n.counted in
-    let e : length k.met ≤ at = k.few in
-    omega arith
+      rw (add-one height) (record { told = told-rest (sym is) (name-told met k (left_to_spell ss sol.nodes.now b stack height rest) l e n put); rows = rows })
 
 -- ---- a term, where it leads
 
@@ -318,7 +308,6 @@ told-after {ws = ws} met ps {qs} p e u =
       put = then p u.put;
       met = u.met;
       numbers_are = u.numbers_are;
-      few = u.few;
       is = e ∙ (ap (λ (l : List ℕ). ws ++ l) u.is ∙ sym (append_assoc ws u.words (bytes_of u.met qs)));
     }
 
@@ -362,9 +351,9 @@ module _ {ss : List Symbol} {n : ℕ} {sol : Solution} {stack : List ℕ} {heigh
 
   -- the closing bracket
   pub turn-close : {place last : ℕ} → place ≡ row_place (row_word stack top) → last ≡ row_last (end_word stack top) → place ≡ last
-      → (met : List Variable) {from to : Written} (rest : List Piece) → Numbers to.numbers met → length met ≤ from.at → Appended from.out from.at (41 ∷ []) to.out to.at
+      → (met : List Variable) {from to : Written} (rest : List Piece) → Numbers to.numbers met → Appended from.out from.at (41 ∷ []) to.out to.at
       → Spelling ss sol.nodes.now (bindings_of ss n sol) (bytes_of met (left_to_spell ss sol.nodes.now (bindings_of ss n sol) stack height rest)) from (record { text = to; stack = stack; height = top }) rest
-  turn-close {place} {last} ep el e met rest num few put =
+  turn-close {place} {last} ep el e met rest num put =
       let same : row_place (row_word stack top) ≡ row_last (end_word stack top) = omega arith in
       let some : row_more (row_word stack top) ≡ false → ⊥ = (λ z. let k : row_place (row_word stack top) < row_last (end_word stack top) = standing.opened z in omega arith) in
       let none : row_terms ss sol.nodes.now (row_word stack top) (end_word stack top) ≡ rnil = row-none ss sol.nodes.now (row_place (row_word stack top)) (row_last (end_word stack top)) standing.row (row_copy (end_word stack top)) (omega arith) in
@@ -373,7 +362,7 @@ module _ {ss : List Symbol} {n : ℕ} {sol : Solution} {stack : List ℕ} {heigh
       ∙ (ap (λ (ts : RTerms). spelt_row (row_more (row_word stack top)) ts (left_to_spell ss sol.nodes.now (bindings_of ss n sol) stack top rest)) (ap (resolved_all (bindings_of ss n sol)) none ∙ resolved-nil (bindings_of ss n sol))
       ∙ row-closed (row_more (row_word stack top)) some (left_to_spell ss sol.nodes.now (bindings_of ss n sol) stack top rest)) in
       record {
-        told = told-words met (41 ∷ []) num few put (ap (bytes_of met) is ∙ bytes-byte met 41 (left_to_spell ss sol.nodes.now (bindings_of ss n sol) stack top rest));
+        told = told-words met (41 ∷ []) num put (ap (bytes_of met) is ∙ bytes-byte met 41 (left_to_spell ss sol.nodes.now (bindings_of ss n sol) stack top rest));
         rows = lower;
       }
 
@@ -456,7 +445,7 @@ module _ {ss : List Symbol} {n : ℕ} {sol : Solution} {stack : List ℕ} {heigh
 
 -- one byte on
 pub counting-on : {numbers : List ℕ} {at m : ℕ} → Counting numbers at → at + 200 < 2 ^ 64 → at ≤ m → m ≤ at + 100 → Counting numbers m
-counting-on {at = at} k l a d = record { met = k.met; numbers_are = k.numbers_are; few = (let e : length k.met ≤ at = k.few in omega arith); near = omega arith }
+counting-on {at = at} k l a d = record { met = k.met; numbers_are = k.numbers_are; near = omega arith }
 
 -- ---- turns, one after another
 
@@ -467,8 +456,8 @@ Going sol from to =
     → Spelling ss sol.nodes.now (bindings_of ss n sol) (bytes_of met (left_to_spell ss sol.nodes.now (bindings_of ss n sol) from.stack from.height rest)) from.text to rest
 
 module _ {sol : Solution} where
-  pub going-none : {from : Walk} → Counting from.text.numbers from.text.at → Going sol from from
-  going-none {from} k ss n met rest s h = record { told = told-words met [] h (few-met k h) (nothing from.text.out from.text.at) refl; rows = s.rows }
+  pub going-none : {from : Walk} → Going sol from from
+  going-none {from} ss n met rest s h = record { told = told-words met [] h (nothing from.text.out from.text.at) refl; rows = s.rows }
 
   module _ {from to : Walk} (g : Going sol from to) where
     pub going-then : {last : Walk} → Going sol to last → Going sol from last
@@ -483,7 +472,7 @@ module _ {sol : Solution} where
     pub count-on : SomeSetting sol from.stack from.height → Counting from.text.numbers from.text.at → to.text.at + 100 < 2 ^ 64 → Counting to.text.numbers to.text.at
     count-on s k l =
         let told = (g s.ss s.n k.met [] s.is k.numbers_are).told in
-        record { met = told.met; numbers_are = told.numbers_are; few = told.few; near = l }
+        record { met = told.met; numbers_are = told.numbers_are; near = l }
 
 told_over : {whole : List ℕ} {from to : Written} {ps : List Piece} (limit : ℕ) → SpeltSoFar whole from to ps → limit < to.at → limit < from.at + length whole
 told_over {whole} {from} {to} {ps} limit t l =
@@ -494,10 +483,10 @@ told_over {whole} {from} {to} {ps} limit t l =
 
 -- all is told, or the limit is passed
 pub walked-told : {whole : List ℕ} {from to : Written} {ps : List Piece} (limit : ℕ) → SpeltSoFar whole from to ps → SpeltToLimit limit whole from to ps
-walked-told limit t = record { done = λ l. t; over = told_over limit t }
+walked-told limit t = record { done = λ l. t; over = told_over limit t; numbers_are = record { met = t.met; numbers_are = t.numbers_are } }
 
 pub walked-over : {whole : List ℕ} {from to : Written} {ps qs : List Piece} (limit : ℕ) → limit < to.at → SpeltSoFar whole from to ps → SpeltToLimit limit whole from to qs
-walked-over limit l t = record { done = λ k. absurd (omega arith); over = told_over limit t }
+walked-over limit l t = record { done = λ k. absurd (omega arith); over = told_over limit t; numbers_are = record { met = t.met; numbers_are = t.numbers_are } }
 
 left-none : (ss : List Symbol) (nodes : List ℕ) (b : List Binding) (stack : List ℕ) (rows : ℕ) (rest : List Piece) → rows ≡ 0 → left_to_spell ss nodes b stack rows rest ≡ rest
 unfolding left_to_spell

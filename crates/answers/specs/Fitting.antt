@@ -1,6 +1,7 @@
 -- What the line of an answer is made from, and where it fits.
-use Rattle.std.specs.Prelude.{ℕ, ◌+◌, ◌<◌, ◌≤◌, ◌≡◌, List, length, Option, Some, None}
+use Rattle.std.specs.Prelude.{ℕ, min, ◌+◌, ◌*◌, ◌<◌, ◌≤◌, ◌≡◌, List, length, Option, Some, None}
 use Rattle.words.specs.Buffers.{Appended}
+use Rattle.run_layout.specs.Regions.{deepest, open_size, stack}
 use Rattle.run_layout.specs.Nodes.{Symbol}
 use Rattle.run_layout.specs.State.{Store}
 use Rattle.run_layout.specs.SymbolNames.{SymbolsSpelt}
@@ -17,6 +18,10 @@ pub record SomeAnswerable (sol : Solution) : Type 0 where
   pub ss : List Symbol
   pub n : ℕ
   pub is : Answerable ss n sol
+
+-- scratch words whose part behind the pending cells is an ample stack for the brackets of an answer with so many bytes of room
+abbrev pub Tellable : List ℕ → ℕ → Type 0
+Tellable scratch room = min (deepest * open_size) (room * open_size + 2 * open_size) + stack ≤ length scratch
 
 -- Where the whole line fits it is written and the next position given; else nothing is written, and no position is given.
 pub record Fitted (line old : List ℕ) (at : ℕ) (new : List ℕ) (r : Option ℕ) : Type 0 where

@@ -18,7 +18,6 @@ use Rattle.answers.specs.declared.Solution.{Solution}
 pub record VariableNumbered (met : List Variable) (x : ℕ) (numbers : List ℕ) (r : ℕ) : Type 0 where
   pub met_after : List Variable
   pub numbers_after : Numbers numbers met_after
-  pub few : length met_after ≤ length met + 1
   pub is : (ps : List Piece) → bytes_of met (unbound (variable_of x) ∷ ps) ≡ numbered r (bytes_of met_after ps)
 
 -- What is written: a text up to a position, and the table of the numbers that its variables have.
@@ -37,7 +36,6 @@ pub record SpeltSoFar (whole : List ℕ) (before after : Written) (ps : List Pie
   pub put : Appended before.out before.at words after.out after.at
   pub met : List Variable
   pub numbers_are : Numbers after.numbers met
-  pub few : length met ≤ after.at
   pub is : whole ≡ words ++ bytes_of met ps
 
 -- ---- the walk
@@ -50,17 +48,16 @@ bindings_of ss n sol = bindings ss sol.nodes.now sol.state.now n
 abbrev pub names_of : Solution → List (List ℕ)
 names_of sol = names_from sol.goal.now sol.names.now 0 sol.count
 
--- The table numbers some variables, and numbers and positions fit.
-pub record Counting (numbers : List ℕ) (at : ℕ) : Type 0 where
-  pub met : List Variable
-  pub numbers_are : Numbers numbers met
-  pub few : length met ≤ at
-  pub near : at + 100 < 2 ^ 64
-
 -- The table numbers some variables.
 pub record SomeNumbers (numbers : List ℕ) : Type 0 where
   pub met : List Variable
   pub numbers_are : Numbers numbers met
+
+-- The same, and positions fit.
+pub record Counting (numbers : List ℕ) (at : ℕ) : Type 0 where
+  pub met : List Variable
+  pub numbers_are : Numbers numbers met
+  pub near : at + 100 < 2 ^ 64
 
 -- A stack of so many words, or of a row for each bracket that can be open at once.
 abbrev pub Ample : List ℕ → ℕ → Type 0
@@ -121,10 +118,11 @@ pub record Spelling (ss : List Symbol) (nodes : List ℕ) (b : List Binding) (wh
   pub told : SpeltSoFar whole before after.text (left_to_spell ss nodes b after.stack after.height rest)
   pub rows : Rows ss nodes b after.stack after.height
 
--- All is spelt, or the limit is passed, as it is by the whole.
+-- All is spelt, or the limit is passed, as it is by the whole; the table numbers some variables either way.
 pub record SpeltToLimit (limit : ℕ) (whole : List ℕ) (before after : Written) (rest : List Piece) : Type 0 where
   pub done : after.at ≤ limit → SpeltSoFar whole before after rest
   pub over : limit < after.at → limit < before.at + length whole
+  pub numbers_are : SomeNumbers after.numbers
 
 -- an open bracket, or a comma
 abbrev pub separator_of : Bool → ℕ

@@ -5,7 +5,7 @@ use Rattle.syntax.specs.Limits.{variables}
 use Rattle.syntax.specs.Spans.{SpanInside}
 use Rattle.machine.specs.Substitution.{Variable, RTerm, RTerms, var, app, rnil, rcons, Binding, resolve}
 use Rattle.machine.specs.Answers.{Piece, spelt_args, spelt_more, place_of}
-use Rattle.run_layout.specs.Regions.{copies, cells, deepest, open_size}
+use Rattle.run_layout.specs.Regions.{copies, cells, store_words, deepest, open_size}
 use Rattle.run_layout.specs.Nodes.{Symbol, Row, terms_at}
 use Rattle.run_layout.specs.State.{variable_of}
 
@@ -15,11 +15,26 @@ use Rattle.run_layout.specs.State.{variable_of}
 unfoldable pub number_among : Variable → List Variable → ℕ
 number_among v met = elim (place_of v 1 met) [ none ↦ 0 | some n ↦ n ]
 
--- A word for each cell, and then their count.
+-- The table has a word for each cell, its mark in the search for a cycle; then the cells that have a number are listed, in the order of their numbers, and
+-- then counted.
+abbrev pub number_list : ℕ
+number_list = cells
+
+abbrev pub count_word : ℕ
+count_word = store_words
+
+-- the cell that has the number j + 1
+abbrev pub numbered_cell : List ℕ → ℕ → ℕ
+numbered_cell numbers j = get_or numbers (number_list + j) 0
+
+-- The table numbers the variables met: so many cells are listed, and they are exactly those that have a number.
 pub record Numbers (numbers : List ℕ) (met : List Variable) : Type 0 where
-  pub long : length numbers ≡ cells + 1
-  pub counted : get_or numbers cells 0 ≡ length met
+  pub long : count_word < length numbers
+  pub counted : get_or numbers count_word 0 ≡ length met
   pub number : (x : ℕ) → x < cells → get_or numbers x 0 ≡ number_among (variable_of x) met
+  pub cell : (j : ℕ) → j < length met → numbered_cell numbers j < cells
+  pub listed : (j : ℕ) → j < length met → get_or numbers (numbered_cell numbers j) 0 ≡ suc j
+  pub only : (x : ℕ) → x < cells → (get_or numbers x 0 ≡ 0 → ⊥) → (j : ℕ) × (j < length met) × (numbered_cell numbers j ≡ x)
 
 -- ---- the stack
 

@@ -3,6 +3,7 @@
 #![tactic(auto)]
 
 pub mod lines;
+mod numbers;
 mod records;
 pub mod values;
 mod walk;

@@ -1,20 +1,16 @@
-// What single words say: a symbol's name, an unbound variable's number, a row of the stack on which a term is spelt.
-ghost use Rattle.std.specs.Prelude.{◌≡◌, List, ◌∷◌, ◌+◌, ◌*◌, ◌^◌, ◌≤◌, ◌<◌, length, get_or, set};
+// What single words say: a symbol's name, and a row of the stack on which a term is spelt.
+ghost use Rattle.std.specs.Prelude.{◌≡◌, ◌+◌, ◌*◌, ◌^◌, ◌≤◌, ◌<◌, length, set};
 ghost use Rattle.syntax.specs.Limits.{word_bytes};
-ghost use Rattle.run_layout.specs.Regions.{copies, cells, places, open_size};
+ghost use Rattle.run_layout.specs.Regions.{copies, places, open_size};
 ghost use Rattle.words.specs.Buffers.{Appended};
-ghost use Rattle.machine.specs.Substitution.{Variable};
-ghost use Rattle.machine.specs.Answers.{Piece, unbound, bytes_of};
-ghost use Rattle.run_layout.specs.State.{variable_of};
 ghost use Rattle.run_layout.specs.SymbolNames.{name_at, NamePlaced};
-ghost use Rattle.answers.specs.Words.{Numbers, row_word, end_word, new_row, moved_row};
+ghost use Rattle.answers.specs.Words.{row_word, end_word, new_row, moved_row};
 ghost use Rattle.answers.specs.Words.{row_place, row_more, span_word, row_last, row_copy};
-ghost use Rattle.answers.specs.Telling.{VariableNumbered, SpeltSoFar, written};
 
 use crate::Solution;
 use run_layout::symbols::text_of;
-use run_layout::{CELLS, COPIES, OPEN_SIZE, symbol_place};
-use words::buffers::{append_byte, append_decimal, append_part};
+use run_layout::{COPIES, OPEN_SIZE, symbol_place};
+use words::buffers::append_part;
 use words::packing::span_length;
 use words::tables::word_at;
 
@@ -41,34 +37,6 @@ impl<'a> Solution<'a> {
         let text = text_of(w, self.sheet, self.goal);
         append_part(text, place, len, out, at)
     }
-}
-
-/// The number of an unbound cell in an answer line, from 1 on: the one it has, or one more than all so far. In the table 0 stands for none, and the last word
-/// counts the numbers given.
-pub fn number_of(numbers: &mut [usize], x: usize) -> usize
-    requires { (x < cells) × ((length numbers.old ≡ cells + 1) × (get_or numbers.old cells 0 + 1 < 2 ^ 64)) }
-    ensures { (met : List Variable) → Numbers numbers.old met → VariableNumbered met x numbers.new result }
-{
-    let known = numbers[x];
-    if known != 0 {
-        return known;
-    }
-    let number = numbers[CELLS] + 1;
-    numbers[x] = number;
-    numbers[CELLS] = number;
-    number
-}
-
-/// Appends the unbound variable of cell x, as `_1`, and gives the position past it.
-pub fn append_unbound(numbers: &mut [usize], x: usize, out: &mut [u8], at: usize) -> usize
-    requires { (x < cells) × ((length numbers.old ≡ cells + 1) × ((get_or numbers.old cells 0 ≤ at) × (at + word_bytes < 2 ^ 64))) }
-    ensures told { (met : List Variable) → Numbers numbers.old met → (ps : List Piece)
-        → SpeltSoFar (bytes_of met (unbound (variable_of x) ∷ ps)) (written numbers.old out.old at) (written numbers.new out.new result) ps }
-    ensures near { (at ≤ result) × (result ≤ at + word_bytes) }
-{
-    let past = append_byte(b'_', out, at);
-    let number = number_of(numbers, x);
-    append_decimal(number, out, past)
 }
 
 /// The row at a height of the stack.

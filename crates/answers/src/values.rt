@@ -13,7 +13,7 @@ ghost use Rattle.answers.specs.Telling.{Ample, Counting, SomeNumbers, Valued, So
 ghost use Rattle.answers.specs.Telling.{bindings_of, names_of, written};
 
 use crate::Solution;
-use crate::records::append_unbound;
+use crate::numbers::append_unbound;
 use run_layout::terms::unpack;
 use words::buffers::{append_all, append_byte, append_part};
 use words::packing::{span_at, span_length};
@@ -73,7 +73,7 @@ impl<'a> Solution<'a> {
     pub fn append_value(
         self,
         i: usize,
-        numbers: &mut [usize],
+        numbers: &mut [u32],
         stack: &mut [u32],
         out: &mut [u8],
         at: usize,
@@ -103,7 +103,7 @@ impl<'a> Solution<'a> {
         w: u32,
         i: usize,
         from: SpeltVariable,
-        numbers: &mut [usize],
+        numbers: &mut [u32],
         stack: &mut [u32],
         out: &mut [u8],
         limit: usize,
@@ -133,7 +133,7 @@ impl<'a> Solution<'a> {
     /// fits, so an empty one measures the line.
     pub fn append_values(
         self,
-        numbers: &mut [usize],
+        numbers: &mut [u32],
         stack: &mut [u32],
         out: &mut [u8],
         at: usize,
@@ -145,7 +145,7 @@ impl<'a> Solution<'a> {
         ensures lined { (ss : List Symbol) (n : ℕ) (met : List Variable) → Values ss n self.entry stack.old → Numbers numbers.old met
             → Lined limit (bytes_of met (values_from (bindings_of ss n self.entry) 0 [] (names_of self.entry)))
             out.old at out.new result }
-        ensures counted { result ≤ limit → SomeNumbers numbers.new }
+        ensures numbered { SomeNumbers numbers.new }
     {
         let mut listed = SpeltVariable { at, more: false };
         for i in 0..self.count {

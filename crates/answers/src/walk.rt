@@ -10,7 +10,8 @@ ghost use Rattle.answers.specs.Telling.{Ample, Counting, Heading, SomeHeading, S
 ghost use Rattle.answers.specs.Telling.{SpeltToLimit, bindings_of, separator_of, written, walked};
 
 use crate::Solution;
-use crate::records::{append_unbound, move_row, put_row, row_at};
+use crate::numbers::append_unbound;
+use crate::records::{move_row, put_row, row_at};
 use bindings::store::deref;
 use run_layout::terms::At;
 use run_layout::{LOADED_NODE, cell_of};
@@ -37,7 +38,7 @@ impl<'a> Solution<'a> {
     fn append_head(
         self,
         t: At,
-        numbers: &mut [usize],
+        numbers: &mut [u32],
         stack: &mut [u32],
         out: &mut [u8],
         at: usize,
@@ -79,7 +80,7 @@ impl<'a> Solution<'a> {
     pub fn append_term(
         self,
         t: At,
-        numbers: &mut [usize],
+        numbers: &mut [u32],
         stack: &mut [u32],
         out: &mut [u8],
         at: usize,
@@ -102,7 +103,7 @@ impl<'a> Solution<'a> {
     // The next argument of the topmost row, or its closing bracket.
     fn turn(
         self,
-        numbers: &mut [usize],
+        numbers: &mut [u32],
         stack: &mut [u32],
         out: &mut [u8],
         at: usize,
@@ -142,7 +143,7 @@ impl<'a> Solution<'a> {
     /// most one row, so a row for each byte is room enough.
     pub fn append_rows(
         self,
-        numbers: &mut [usize],
+        numbers: &mut [u32],
         stack: &mut [u32],
         out: &mut [u8],
         at: usize,

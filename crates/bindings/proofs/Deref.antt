@@ -4,10 +4,11 @@ use mathlib.Core.Path.{subst⁻¹}
 use Rattle.syntax.specs.Words.{first_name}
 use Rattle.machine.specs.Substitution.{var, resolve}
 use Rattle.run_layout.specs.Regions.{copies, cells, trail, store_words, loaded_node}
+use Rattle.run_layout.specs.Rooms.{Clean}
 use Rattle.run_layout.specs.Nodes.{Symbol, Node, term_at}
 use Rattle.run_layout.specs.State.{at_of, cell_of, variable_of, node_of, copy_of, cell_at, trail_at, value_of, bindings, TrailEntry, Acyclic, RawStore, Store, WithinCopies, BindingsKept}
 use Rattle.run_layout.proofs.Nodes.{node-inside, variable-at}
-use Rattle.run_layout.proofs.State.{variable-cell, cell-small, copy-small, resolve-bound, undo-raw, undo-keeps, keeps-refl, keeps-trans, few, agrees, acyclic-agrees}
+use Rattle.run_layout.proofs.State.{variable-cell, cell-small, copy-small, resolve-bound, undo-raw, undo-keeps, keeps-refl, keeps-trans, few, agrees, acyclic-agrees, none-bound}
 use Rattle.run_layout.specs.declared.terms.At.{At}
 use Rattle.bindings.specs.Cells.{bound_at, StoredTerm, MeansSame, Dereferences, Stored, Undone}
 
@@ -148,3 +149,7 @@ next-entry before after mark i n l s u =
 pub undone-store : (ss : List Symbol) (nodes before after : List ℕ) (mark n : ℕ) → mark ≤ n → Undone before after mark n → Store ss nodes before n → Store ss nodes after mark
 undone-store ss nodes before after mark n l u s =
     record { raw = u.store ss nodes s.raw; acyclic = acyclic-agrees ss nodes before after mark (agrees mark before after u.keeps) (λ i h. s.acyclic i (omega arith)) }
+
+-- where all entries are undone, no cell is bound
+pub undone-clean : (before after : List ℕ) (n : ℕ) → Stored before n → Undone before after 0 n → Clean after
+undone-clean before after n s u = none-bound s.ss s.nodes after (u.store s.ss s.nodes s.store)

@@ -14,6 +14,7 @@ use borrow.Author.Tests.{ltb-true, ltb-false, eqb-true, eqb-false}
 use Rattle.syntax.specs.Words.{first_name}
 use Rattle.machine.specs.Substitution.{var, replace, Binding, resolve}
 use Rattle.run_layout.specs.Regions.{copies, cells, loaded_node, cut_list, cut_count, cut_of, cuts_word, memo, slots, keys, rows}
+use Rattle.run_layout.specs.Halves.{half, stored}
 use Rattle.run_layout.specs.Nodes.{Symbol, Node, term_at}
 use Rattle.run_layout.specs.State.{at_of, cell_of, node_of, copy_of, cell_at, bindings}
 use Rattle.run_layout.proofs.Nodes.{node-inside, variable-at}
@@ -22,10 +23,11 @@ use Rattle.std.specs.Option.{option_or}
 use Rattle.bindings.specs.Cells.{bound_at, CellTerm, MeansSame}
 use Rattle.run_layout.specs.declared.terms.At.{At}
 use Rattle.bindings.specs.Scratch.{Roomy}
-use Rattle.bindings.proofs.Deref.{BoundCell, bound-cell-is, bound-variable, bound-name, depth, depth-variable}
-use Rattle.bindings.specs.Cuts.{cuts_made, cut_from, cut_to, cell_means, Cuts, Cut, Cutting}
-use Rattle.bindings.specs.Chains.{Fronted, Followable, NextOfChain, Next, Staged, Further, Strode, Cuttable, Eased, Followed, Both, BothFollowed}
+use Rattle.bindings.proofs.Deref.{BoundCell, bound-cell-is, bound-variable, bound-name, depth, depth-variable, depth-name}
+use Rattle.bindings.specs.Cuts.{cuts_made, cut_from, cut_to, cell_means, cell_at_place, Cuts, CutFrom, Cut, Cutting, KnownSame}
+use Rattle.bindings.specs.Chains.{Fronted, Followable, NextOfChain, Next, Staged, Linked, ChainEnd, Shortenable, VariableAt, Eased, Followed, Both, BothFollowed, Pairable, Joined}
 use Rattle.bindings.specs.declared.shortcuts.Stage.{Stage}
+use Rattle.bindings.specs.declared.shortcuts.Way.{Way}
 use Rattle.bindings.specs.declared.shortcuts.Ends.{Ends}
 
 -- ---- the list
@@ -38,7 +40,8 @@ cuts-kept b before after w k =
     record {
       alike = λ j l m.
           (let e : cuts_made after ≡ cuts_made before = w cuts_word (omega arith) (omega arith) in
-          ap (cell_means b) (w (cut_of j) (omega arith) (omega arith)) ∙ (k.alike j (omega (arith, e)) m ∙ sym (ap (cell_means b) (w (cut_of j + 1) (omega arith) (omega arith)))));
+          let z : get_or after (cut_of j) 0 ≡ get_or before (cut_of j) 0 = w (cut_of j) (omega arith) (omega arith) in
+          ap (λ (v : ℕ). cell_means b (half 1 v)) z ∙ (k.alike j (omega (arith, e)) m ∙ sym (ap (λ (v : ℕ). cell_means b (half 0 v)) z)));
     }
 
 -- one binding more
@@ -49,8 +52,15 @@ cuts-bound b scratch new k = record { alike = λ j l m. ap (replace new.variable
 pub cut-none : (scratch : List ℕ) (x : ℕ) → Cut scratch x x
 cut-none scratch x = record { is = λ b k. refl }
 
-pub cut_at : {scratch : List ℕ} {x y : ℕ} (j : ℕ) → j < cut_count → j < cuts_made scratch → cut_from scratch j ≡ x → y ≡ cut_to scratch j → Cut scratch x y
-cut_at j l m e f = record { is = λ b k. sym (ap (cell_means b) e) ∙ (k.alike j m l ∙ sym (ap (cell_means b) f)) }
+pub cut_at : {scratch : List ℕ} {x y j : ℕ} → CutFrom scratch x j → y ≡ cut_to scratch j → Cut scratch x y
+cut_at {scratch} {x} {y} {j} k f = record { is = λ b c. sym (ap (cell_means b) k.from) ∙ (c.alike j k.below k.small ∙ sym (ap (cell_means b) f)) }
+
+-- the same, the other way round
+pub cut-back : {scratch : List ℕ} {x y : ℕ} → Cut scratch x y → Cut scratch y x
+cut-back k = record { is = λ b c. sym (k.is b c) }
+
+pub cut-to-is : {scratch : List ℕ} {x y z : ℕ} → Cut scratch x y → y ≡ z → Cut scratch x z
+cut-to-is {scratch} {x} k e = subst (Cut scratch x) e k
 
 pub cutting-full : (before : List ℕ) (x y : ℕ) → rows ≤ length before → {after : List ℕ} → after ≡ set before cuts_word 0 → Cutting before after x y
 cutting-full before x y l {after} e =
@@ -65,49 +75,84 @@ cutting-full before x y l {after} e =
       cuts = λ b s k. cuts-none b (set before cuts_word 0) (get_or-set_same before cuts_word 0 0 (omega arith));
     })
 
-module _ (before : List ℕ) (k x y slot word : ℕ) (long : rows ≤ length before) (is : k ≡ cuts_made before) (room : k < cut_count) (low : slots ≤ slot) (high : slot < keys) where
+-- the two cells in a cut's word
+word-from : (x y : ℕ) → x < cells → half 1 (stored 1 y x) ≡ x
+unfolding half stored
+word-from x y l = omega arith
+
+word-to : (x y : ℕ) → y < cells → half 0 (stored 1 y x) ≡ y
+unfolding half stored
+word-to x y l = omega arith
+
+module _ (before : List ℕ) (j x y : ℕ) (long : rows ≤ length before) (small : j < cut_count) (low-x : x < cells) (low-y : y < cells) where
+  abbrev pub written : List ℕ
+  written = set before (cut_of j) (stored 1 y x)
+
+  pub written-at : get_or written (cut_of j) 0 ≡ stored 1 y x
+  written-at = get_or-set_same before (cut_of j) (stored 1 y x) 0 (omega arith)
+
+  pub written-other : (i : ℕ) → (i ≡ cut_of j → ⊥) → get_or written i 0 ≡ get_or before i 0
+  written-other i e = get_or-set_other before (cut_of j) i (stored 1 y x) 0 e
+
+  -- a cut of the same cell in place of another
+  pub cutting-again : CutFrom before x j → {after : List ℕ} → after ≡ written → Cutting before after x y
+  cutting-again k {after} e =
+      subst⁻¹ (λ (s : List ℕ). Cutting before s x y) e
+      (record {
+        beside = record {
+          long = length-set before (cut_of j) (stored 1 y x);
+          low = λ i o. written-other i (λ e1. omega arith);
+          counts = λ i o h. written-other i (λ e1. omega arith);
+          high = λ i o. written-other i (λ e1. omega arith);
+        };
+        cuts = λ b s c. record { alike = λ i l m. at b s c i l m (eqb i j) refl };
+      })
+    where
+      at : (b : List Binding) → cell_means b x ≡ cell_means b y → Cuts b before → (i : ℕ) → i < cuts_made written → i < cut_count → (t : Bool) → eqb i j ≡ t → cell_means b (cut_from written i) ≡ cell_means b (cut_to written i)
+      at b s c i l m true h =
+          let z : i ≡ j = eqb-true i j h in
+          let w : get_or written (cut_of i) 0 ≡ stored 1 y x = ap (λ (n : ℕ). get_or written (cut_of n) 0) z ∙ written-at in
+          ap (λ (v : ℕ). cell_means b (half 1 v)) w ∙ (ap (cell_means b) (word-from x y low-x) ∙ (s ∙ (sym (ap (cell_means b) (word-to x y low-y)) ∙ sym (ap (λ (v : ℕ). cell_means b (half 0 v)) w))))
+      at b s c i l m false h =
+          let z : i ≡ j → ⊥ = eqb-false i j h in
+          let w : get_or written (cut_of i) 0 ≡ get_or before (cut_of i) 0 = written-other (cut_of i) (λ e1. z (omega arith)) in
+          let n : cuts_made written ≡ cuts_made before = written-other cuts_word (λ e1. omega arith) in
+          ap (λ (v : ℕ). cell_means b (half 1 v)) w ∙ (c.alike i (omega (arith, n)) m ∙ sym (ap (λ (v : ℕ). cell_means b (half 0 v)) w))
+
+module _ (before : List ℕ) (k x y slot word : ℕ) (long : rows ≤ length before) (is : k ≡ cuts_made before) (room : k < cut_count) (low-x : x < cells) (low-y : y < cells) (low : slots ≤ slot) (high : slot < keys) where
   abbrev first : List ℕ
-  first = set before (cut_of k) x
+  first = written before k x y long room low-x low-y
 
   abbrev second : List ℕ
-  second = set first (cut_of k + 1) y
-
-  abbrev third : List ℕ
-  third = set second slot word
+  second = set first slot word
 
   abbrev pub cut-words : List ℕ
-  cut-words = set third cuts_word (k + 1)
+  cut-words = set second cuts_word (k + 1)
 
-  first-long : length first ≡ length before
-  first-long = length-set before (cut_of k) x
-
-  third-long : length third ≡ length before
-  third-long = length-set second slot word ∙ (length-set first (cut_of k + 1) y ∙ first-long)
+  second-long : length second ≡ length before
+  second-long = length-set first slot word ∙ length-set before (cut_of k) (stored 1 y x)
 
   -- what is neither the count nor the slot
-  behind : (j : ℕ) → (j ≡ cuts_word → ⊥) → (j ≡ slot → ⊥) → get_or cut-words j 0 ≡ get_or second j 0
-  behind j a c = get_or-set_other third cuts_word j (k + 1) 0 a ∙ get_or-set_other second slot j word 0 c
+  behind : (j : ℕ) → (j ≡ cuts_word → ⊥) → (j ≡ slot → ⊥) → get_or cut-words j 0 ≡ get_or first j 0
+  behind j a c = get_or-set_other second cuts_word j (k + 1) 0 a ∙ get_or-set_other first slot j word 0 c
 
-  other : (j : ℕ) → (j ≡ cuts_word → ⊥) → (j ≡ slot → ⊥) → (j ≡ cut_of k → ⊥) → (j ≡ cut_of k + 1 → ⊥) → get_or cut-words j 0 ≡ get_or before j 0
-  other j a c d e = behind j a c ∙ (get_or-set_other first (cut_of k + 1) j y 0 e ∙ get_or-set_other before (cut_of k) j x 0 d)
+  other : (j : ℕ) → (j ≡ cuts_word → ⊥) → (j ≡ slot → ⊥) → (j ≡ cut_of k → ⊥) → get_or cut-words j 0 ≡ get_or before j 0
+  other j a c d = behind j a c ∙ written-other before k x y long room low-x low-y j d
 
-  new-from : cut_from cut-words k ≡ x
-  new-from = behind (cut_of k) (λ e. omega arith) (λ e. omega arith) ∙ (get_or-set_other first (cut_of k + 1) (cut_of k) y 0 (λ e. omega arith) ∙ get_or-set_same before (cut_of k) x 0 (omega arith))
-
-  new-to : cut_to cut-words k ≡ y
-  new-to = behind (cut_of k + 1) (λ e. omega arith) (λ e. omega arith) ∙ get_or-set_same first (cut_of k + 1) y 0 (let e : length first ≡ length before = first-long in omega arith)
+  new-word : get_or cut-words (cut_of k) 0 ≡ stored 1 y x
+  new-word = behind (cut_of k) (λ e. omega arith) (λ e. omega arith) ∙ written-at before k x y long room low-x low-y
 
   made : cuts_made cut-words ≡ k + 1
-  made = get_or-set_same third cuts_word (k + 1) 0 (let e : length third ≡ length before = third-long in omega arith)
+  made = get_or-set_same second cuts_word (k + 1) 0 (let e : length second ≡ length before = second-long in omega arith)
 
   pub cutting-new : Cutting before cut-words x y
   cutting-new =
       record {
         beside = record {
-          long = length-set third cuts_word (k + 1) ∙ third-long;
-          low = λ j o. other j (λ e. omega arith) (λ e. omega arith) (λ e. omega arith) (λ e. omega arith);
-          counts = λ j o h. other j (λ e. omega arith) (λ e. omega arith) (λ e. omega arith) (λ e. omega arith);
-          high = λ j o. other j (λ e. omega arith) (λ e. omega arith) (λ e. omega arith) (λ e. omega arith);
+          long = length-set second cuts_word (k + 1) ∙ second-long;
+          low = λ j o. other j (λ e. omega arith) (λ e. omega arith) (λ e. omega arith);
+          counts = λ j o h. other j (λ e. omega arith) (λ e. omega arith) (λ e. omega arith);
+          high = λ j o. other j (λ e. omega arith) (λ e. omega arith) (λ e. omega arith);
         };
         cuts = λ b s c. record { alike = λ j l m. at b s c j l m (eqb j k) refl };
       }
@@ -115,20 +160,24 @@ module _ (before : List ℕ) (k x y slot word : ℕ) (long : rows ≤ length bef
       at : (b : List Binding) → cell_means b x ≡ cell_means b y → Cuts b before → (j : ℕ) → j < cuts_made cut-words → j < cut_count → (t : Bool) → eqb j k ≡ t → cell_means b (cut_from cut-words j) ≡ cell_means b (cut_to cut-words j)
       at b s c j l m true e =
           let z : j ≡ k = eqb-true j k e in
-          ap (cell_means b) (ap (cut_from cut-words) z ∙ new-from) ∙ (s ∙ sym (ap (cell_means b) (ap (cut_to cut-words) z ∙ new-to)))
+          let w : get_or cut-words (cut_of j) 0 ≡ stored 1 y x = ap (λ (n : ℕ). get_or cut-words (cut_of n) 0) z ∙ new-word in
+          ap (λ (v : ℕ). cell_means b (half 1 v)) w ∙ (ap (cell_means b) (word-from x y low-x) ∙ (s ∙ (sym (ap (cell_means b) (word-to x y low-y)) ∙ sym (ap (λ (v : ℕ). cell_means b (half 0 v)) w))))
       at b s c j l m false e =
           let z : j ≡ k → ⊥ = eqb-false j k e in
           let n : j < k = (let h : j < cuts_made cut-words = l in let q : cuts_made cut-words ≡ k + 1 = made in omega (arith, z)) in
-          ap (cell_means b) (other (cut_of j) (λ e1. omega arith) (λ e1. omega arith) (λ e1. omega arith) (λ e1. omega arith))
-          ∙ (c.alike j (omega (arith, is)) m ∙ sym (ap (cell_means b) (other (cut_of j + 1) (λ e1. omega arith) (λ e1. omega arith) (λ e1. omega arith) (λ e1. omega arith))))
+          let w : get_or cut-words (cut_of j) 0 ≡ get_or before (cut_of j) 0 = other (cut_of j) (λ e1. omega arith) (λ e1. omega arith) (λ e1. omega arith) in
+          ap (λ (v : ℕ). cell_means b (half 1 v)) w ∙ (c.alike j (omega (arith, is)) m ∙ sym (ap (λ (v : ℕ). cell_means b (half 0 v)) w))
 
--- a cut between two variables' cells
-pub cell_in : {c v x : ℕ} → c < copies → v < first_name → x ≡ cell_of c v → x < cells
-cell_in {c} {v} {x} l h e = let a : cell_of c v < cells = cell-small c v l h in omega (arith, e)
+-- a cut between two cells that are these
+pub cutting-is : {before after : List ℕ} {x y u v : ℕ} → x ≡ u → y ≡ v → Cutting before after x y → Cutting before after u v
+cutting-is {before} {after} {x} {y} {u} {v} e f k = subst (λ (i : ℕ). Cutting before after i v) e (subst (Cutting before after x) f k)
 
-pub cutting-at : (nodes : List ℕ) (p c q d : ℕ) {before after : List ℕ} {v x w y : ℕ} → v ≡ get_or nodes p 0 → x ≡ cell_of c v → w ≡ get_or nodes q 0 → y ≡ cell_of d w → Cutting before after x y → Cutting before after (cell_of c (get_or nodes p 0)) (cell_of d (get_or nodes q 0))
-cutting-at nodes p c q d {before} {after} {v} {x} {w} {y} ev ex ew ey k =
-    subst (λ (i : ℕ). Cutting before after i (cell_of d (get_or nodes q 0))) (ex ∙ ap (cell_of c) ev) (subst (λ (i : ℕ). Cutting before after x i) (ey ∙ ap (cell_of d) ew) k)
+pub cutting-by : {before s t : List ℕ} {x y : ℕ} → s ≡ t → Cutting before t x y → Cutting before s x y
+cutting-by {before} {s} {t} {x} {y} e k = subst⁻¹ (λ (u : List ℕ). Cutting before u x y) e k
+
+-- the cell of a variable
+pub cell_in : {nodes : List ℕ} {a : At} {x : ℕ} → VariableAt nodes a → x ≡ cell_at_place nodes a → x < cells
+cell_in {nodes} {a} k e = let l : cell_of a.copy (get_or nodes a.node 0) < cells = cell-small a.copy (get_or nodes a.node 0) k.copy k.variable in omega (arith, e)
 
 -- ---- only cuts change
 
@@ -294,54 +343,66 @@ module _ (nodes front : List ℕ) (p c : ℕ) (g : Fronted nodes front p c) wher
         let s : Staged g.given.known g.given.ss nodes g.state g.given.n a.node a.copy _ = m lead-on in
         record { leads = leads-trans lead-leads s.leads; stops = s.stops }
 
--- ---- a stride
+-- ---- along a chain
 
 module _ (nodes front scratch : List ℕ) (p c : ℕ) (g : Followable nodes front scratch p c) where
   -- another term that it leads to
   abbrev pub follow-at : {q d : ℕ} → MeansSame g.from.given.known g.from.given.ss nodes g.from.state g.from.given.n p c q d → Followable nodes front scratch q d
   follow-at k = record { from = front_at nodes front p c g.from k; roomy = g.roomy; cuts = g.cuts }
 
--- k links and cuts on; the cell of a variable is lower by as many at least
-pub record Striding (known : Bool) (ss : List Symbol) (nodes state : List ℕ) (n p c k : ℕ) (a : At) (r : Option At) : Type 0 where
-  pub leads : MeansSame known ss nodes state n p c a.node a.copy
-  pub next : Next known ss nodes state n a.node a.copy r
-  pub from : get_or nodes a.node 0 < first_name → get_or nodes p 0 < first_name
-  pub down : get_or nodes a.node 0 < first_name → cell_of a.copy (get_or nodes a.node 0) + k ≤ cell_of c (get_or nodes p 0)
+-- a variable of a table
+pub variable-here : {ss : List Symbol} {nodes : List ℕ} {a : At} → Node ss nodes a.node → a.copy < copies → get_or nodes a.node 0 < first_name → VariableAt nodes a
+variable-here {ss} {nodes} {a} k c l = record { inside = (let e : a.node + loaded_node ≤ length nodes = node-inside ss nodes a.node k in omega arith); variable = l; copy = c }
 
-module _ (nodes front scratch : List ℕ) (p c : ℕ) (g : Followable nodes front scratch p c) where
-  pub stride-begin : {r : Option At} → ((h : Followable nodes front scratch p c) → Next h.from.given.known h.from.given.ss nodes h.from.state h.from.given.n p c r) → Striding g.from.given.known g.from.given.ss nodes g.from.state g.from.given.n p c 0 (record { node = p; copy = c }) r
-  stride-begin k = record { leads = leads-here nodes front p c g.from; next = k g; from = λ l. l; down = λ l. omega arith }
+-- a link goes down
+pub next-falls : {known : Bool} {ss : List Symbol} {nodes state : List ℕ} {n p c : ℕ} {a : At} → NextOfChain known ss nodes state n p c a → depth nodes a.node a.copy < depth nodes p c
+next-falls {known} {ss} {nodes} {state} {n} {p} {c} {a} k = go (ltb (get_or nodes a.node 0) first_name) refl
+  where
+    from : depth nodes p c ≡ suc (cell_of c (get_or nodes p 0))
+    from = depth-variable nodes p c k.variable
 
-  module _ {k : ℕ} {q : At} {r : Option At} (s : Striding g.from.given.known g.from.given.ss nodes g.from.state g.from.given.n p c k q r) where
-    pub stride-end : r ≡ None → Strode g.from.given.known g.from.given.ss nodes g.from.state g.from.given.n p c (record { at = q; next = r })
-    stride-end e = record { staged = record { leads = s.leads; stops = s.next.stops }; further = λ z. absurd (z e) }
+    go : (t : Bool) → ltb (get_or nodes a.node 0) first_name ≡ t → depth nodes a.node a.copy < depth nodes p c
+    go true t =
+        let l : get_or nodes a.node 0 < first_name = ltb-true (get_or nodes a.node 0) first_name t in
+        let d : cell_of a.copy (get_or nodes a.node 0) < cell_of c (get_or nodes p 0) = k.down l in
+        let e : depth nodes a.node a.copy ≡ suc (cell_of a.copy (get_or nodes a.node 0)) = depth-variable nodes a.node a.copy l in
+        let f : depth nodes p c ≡ suc (cell_of c (get_or nodes p 0)) = from in
+        omega arith
+    go false t =
+        let e : depth nodes a.node a.copy ≡ 0 = depth-name nodes a.node a.copy (ltb-false (get_or nodes a.node 0) first_name t) in
+        let f : depth nodes p c ≡ suc (cell_of c (get_or nodes p 0)) = from in
+        omega arith
 
-    pub stride-full : 1 ≤ k → Strode g.from.given.known g.from.given.ss nodes g.from.state g.from.given.n p c (record { at = q; next = r })
-    stride-full l =
-        record {
-          staged = record { leads = s.leads; stops = s.next.stops };
-          further = λ z.
-              (let v : get_or nodes q.node 0 < first_name = on-variable r s.next z in
-              let h : cell_of q.copy (get_or nodes q.node 0) + k ≤ cell_of c (get_or nodes p 0) = s.down v in
-              record { from = s.from v; to = v; down = omega arith });
-        }
+-- a walk that has come to a term, by way of a last variable
+pub record OnWay (known : Bool) (ss : List Symbol) (nodes state : List ℕ) (n : ℕ) (p last at : At) : Type 0 where
+  pub leads : MeansSame known ss nodes state n p.node p.copy last.node last.copy
+  pub variable : get_or nodes last.node 0 < first_name
+  pub here : MeansSame known ss nodes state n p.node p.copy at.node at.copy
 
-    module _ {a : At} (e : r ≡ Some a) where
-      pub leads-on : NextOfChain g.from.given.known g.from.given.ss nodes g.from.state g.from.given.n q.node q.copy a
-      leads-on = s.next.on a e
+module _ {nodes front scratch : List ℕ} {p next : At} (g : Linked nodes front scratch p next) where
+  abbrev pub WayTo : At → At → Type 0
+  WayTo last at = OnWay g.start.from.given.known g.start.from.given.ss nodes g.start.from.state g.start.from.given.n p last at
 
-      abbrev pub stride-follow : Followable nodes front scratch a.node a.copy
-      stride-follow = follow-at nodes front scratch p c g (leads-trans s.leads leads-on.leads)
+  pub way-begin : WayTo p next
+  way-begin = record { leads = leads-here nodes front p.node p.copy g.start.from; variable = g.next.variable; here = g.next.leads }
 
-      pub stride-next : {u : Option At} → ((h : Followable nodes front scratch a.node a.copy) → Next h.from.given.known h.from.given.ss nodes h.from.state h.from.given.n a.node a.copy u) → Striding g.from.given.known g.from.given.ss nodes g.from.state g.from.given.n p c (k + 1) a u
-      stride-next m =
-          let h : cell_of q.copy (get_or nodes q.node 0) + k ≤ cell_of c (get_or nodes p 0) = s.down leads-on.variable in
-          record {
-            leads = leads-trans s.leads leads-on.leads;
-            next = m stride-follow;
-            from = λ l. s.from leads-on.variable;
-            down = λ l. (let f : cell_of a.copy (get_or nodes a.node 0) < cell_of q.copy (get_or nodes q.node 0) = leads-on.down l in omega arith);
-          }
+  module _ {last at : At} (w : WayTo last at) where
+    abbrev pub way-follow : Followable nodes front scratch at.node at.copy
+    way-follow = follow-at nodes front scratch p.node p.copy g.start w.here
+
+    module _ {r : Option At} (m : (h : Followable nodes front scratch at.node at.copy) → Next h.from.given.known h.from.given.ss nodes h.from.state h.from.given.n at.node at.copy r) where
+      pub way-end : r ≡ None → ChainEnd g.start.from.given.known g.start.from.given.ss nodes g.start.from.state g.start.from.given.n p (record { last = last; end = at })
+      way-end e = record { derefs = record { leads = w.here; stops = (m way-follow).stops e }; leads = w.leads; variable = w.variable }
+
+      module _ {a : At} (e : r ≡ Some a) where
+        way-link : NextOfChain g.start.from.given.known g.start.from.given.ss nodes g.start.from.state g.start.from.given.n at.node at.copy a
+        way-link = (m way-follow).on a e
+
+        pub way-next : WayTo at a
+        way-next = record { leads = w.here; variable = way-link.variable; here = leads-trans w.here way-link.leads }
+
+        pub way-falls : depth nodes a.node a.copy < depth nodes at.node at.copy
+        way-falls = next-falls way-link
 
 -- ---- a walk
 
@@ -349,60 +410,66 @@ pub record Walking (known : Bool) (ss : List Symbol) (nodes state : List ℕ) (n
   pub leads : MeansSame known ss nodes state n p c q d
   pub eased : Eased known (bindings ss nodes state n) before after
 
-module _ (nodes front before : List ℕ) (p c : ℕ) (g : Followable nodes front before p c) where
-  pub walk-begin : Walking g.from.given.known g.from.given.ss nodes g.from.state g.from.given.n before before p c p c
-  walk-begin = record { leads = leads-here nodes front p c g.from; eased = eased-refl (bindings g.from.given.ss nodes g.from.state g.from.given.n) before g.cuts }
+module _ {nodes front before : List ℕ} {p last : At} (g : Shortenable nodes front before p last) where
+  abbrev sf : Fronted nodes front p.node p.copy
+  sf = g.start.from
 
-  module _ {after : List ℕ} {q d : ℕ} (s : Walking g.from.given.known g.from.given.ss nodes g.from.state g.from.given.n before after p c q d) where
-    abbrev pub walk-follow : Followable nodes front after q d
-    walk-follow = record { from = front_at nodes front p c g.from s.leads; roomy = eased-roomy s.eased g.roomy; cuts = s.eased.cuts }
+  abbrev sb : List Binding
+  sb = bindings g.start.from.given.ss nodes g.start.from.state g.start.from.given.n
 
-    module _ {r : Stage} (m : (h : Followable nodes front after q d) → Strode h.from.given.known h.from.given.ss nodes h.from.state h.from.given.n q d r) where
-      strode : Strode g.from.given.known g.from.given.ss nodes g.from.state g.from.given.n q d r
-      strode = m walk-follow
+  abbrev pub WalkTo : List ℕ → At → Type 0
+  WalkTo after at = Walking g.start.from.given.known g.start.from.given.ss nodes g.start.from.state g.start.from.given.n before after p.node p.copy at.node at.copy
 
-      pub walk_end : r.next ≡ None → Followed g after r.at
-      walk_end e = record { derefs = record { leads = leads-trans s.leads strode.staged.leads; stops = strode.staged.stops e }; eased = s.eased }
+  pub last-variable : VariableAt nodes last
+  last-variable = variable-here g.leads.node g.leads.copy g.variable
 
-      module _ (z : r.next ≡ None → ⊥) where
-        far : Further nodes q d r.at.node r.at.copy
-        far = strode.further z
+  pub walk-begin : WalkTo before p
+  walk-begin = record { leads = leads-here nodes front p.node p.copy g.start.from; eased = eased-refl sb before g.start.cuts }
 
-        node_in : {i : ℕ} → Node g.from.given.ss nodes i → i < length nodes
-        node_in {i} k = let a : i + loaded_node ≤ length nodes = node-inside g.from.given.ss nodes i k in omega arith
+  -- a variable of the store is that of its cell
+  variable-is : {a : At} → MeansSame g.start.from.given.known g.start.from.given.ss nodes g.start.from.state g.start.from.given.n p.node p.copy a.node a.copy → get_or nodes a.node 0 < first_name
+      → cell_means sb (cell_at_place nodes a) ≡ resolve sb (term_at g.start.from.given.ss nodes a.node a.copy)
+  variable-is {a} k l = term_is nodes front a.node a.copy (front_at nodes front p.node p.copy g.start.from k) refl l refl
 
-        pub walk-cut : Cuttable nodes after q d r.at.node r.at.copy
-        walk-cut =
-            record {
-              left = far.from;
-              right = far.to;
-              inside = node_in s.leads.node;
-              inside_right = node_in strode.staged.leads.node;
-              copy = s.leads.copy;
-              copy_right = strode.staged.leads.copy;
-              roomy = eased-roomy s.eased g.roomy;
-            }
+  module _ {after : List ℕ} {at : At} (w : WalkTo after at) where
+    abbrev pub walk-follow : Followable nodes front after at.node at.copy
+    walk-follow = record { from = front_at nodes front p.node p.copy g.start.from w.leads; roomy = eased-roomy w.eased g.start.roomy; cuts = w.eased.cuts }
 
-        pub walk-falls : depth nodes r.at.node r.at.copy < depth nodes q d
-        walk-falls =
-            let i : depth nodes r.at.node r.at.copy ≡ suc (cell_of r.at.copy (get_or nodes r.at.node 0)) = depth-variable nodes r.at.node r.at.copy far.to in
-            let j : depth nodes q d ≡ suc (cell_of d (get_or nodes q 0)) = depth-variable nodes q d far.from in
-            let h : cell_of r.at.copy (get_or nodes r.at.node 0) < cell_of d (get_or nodes q 0) = far.down in
-            omega arith
+    module _ {r : Option At} (m : (h : Followable nodes front after at.node at.copy) → Next h.from.given.known h.from.given.ss nodes h.from.state h.from.given.n at.node at.copy r) {a : At} (e : r ≡ Some a) where
+      walk-link : NextOfChain g.start.from.given.known g.start.from.given.ss nodes g.start.from.state g.start.from.given.n at.node at.copy a
+      walk-link = (m walk-follow).on a e
 
-        -- a variable of the store is that of its cell
-        variable-is : {i e : ℕ} → MeansSame g.from.given.known g.from.given.ss nodes g.from.state g.from.given.n p c i e → get_or nodes i 0 < first_name
-            → cell_means (bindings g.from.given.ss nodes g.from.state g.from.given.n) (cell_of e (get_or nodes i 0)) ≡ resolve (bindings g.from.given.ss nodes g.from.state g.from.given.n) (term_at g.from.given.ss nodes i e)
-        variable-is {i} {e} k l = term_is nodes front i e (front_at nodes front p c g.from k) refl l refl
+      pub walk-variable : VariableAt nodes at
+      walk-variable = variable-here w.leads.node w.leads.copy walk-link.variable
 
-        pub walk-next : {later : List ℕ} → Cutting after later (cell_of d (get_or nodes q 0)) (cell_of r.at.copy (get_or nodes r.at.node 0)) → Walking g.from.given.known g.from.given.ss nodes g.from.state g.from.given.n before later p c r.at.node r.at.copy
-        walk-next k =
-            let t : MeansSame g.from.given.known g.from.given.ss nodes g.from.state g.from.given.n p c r.at.node r.at.copy = leads-trans s.leads strode.staged.leads in
-            record {
-              leads = t;
-              eased = eased-trans s.eased
-                  (record { beside = k.beside; cuts = λ f. k.cuts (bindings g.from.given.ss nodes g.from.state g.from.given.n) (variable-is s.leads far.from ∙ (sym (strode.staged.leads.means f) ∙ sym (variable-is t far.to))) (s.eased.cuts f) });
-            }
+      pub walk-falls : depth nodes a.node a.copy < depth nodes at.node at.copy
+      walk-falls = next-falls walk-link
+
+      pub walk-next : {later : List ℕ} {x y : ℕ} → x ≡ cell_at_place nodes at → y ≡ cell_at_place nodes last → Cutting after later x y → WalkTo later a
+      walk-next ex ey k =
+          record {
+            leads = leads-trans w.leads walk-link.leads;
+            eased = eased-trans w.eased
+                (record {
+                  beside = k.beside;
+                  cuts = λ f. k.cuts sb (ap (cell_means sb) ex ∙ (variable-is w.leads walk-link.variable ∙ (w.leads.means f ∙ (sym (g.leads.means f) ∙ (sym (variable-is g.leads g.variable) ∙ sym (ap (cell_means sb) ey)))))) (w.eased.cuts f);
+                });
+          }
+
+module _ {nodes front before : List ℕ} {p : At} (g : Followable nodes front before p.node p.copy) where
+  pub stays : (r : Option At) → r ≡ None → ((h : Followable nodes front before p.node p.copy) → Next h.from.given.known h.from.given.ss nodes h.from.state h.from.given.n p.node p.copy r) → Followed g before p
+  stays r e m = record { derefs = record { leads = leads-here nodes front p.node p.copy g.from; stops = (m g).stops e }; eased = eased-refl (bindings g.from.given.ss nodes g.from.state g.from.given.n) before g.cuts }
+
+  module _ {r : Option At} (m : (h : Followable nodes front before p.node p.copy) → Next h.from.given.known h.from.given.ss nodes h.from.state h.from.given.n p.node p.copy r) {next : At} (e : r ≡ Some next) where
+    abbrev pub linked : Linked nodes front before p next
+    linked = record { start = g; next = (m g).on next e }
+
+    module _ {w : Way} (k : (h : Linked nodes front before p next) → ChainEnd h.start.from.given.known h.start.from.given.ss nodes h.start.from.state h.start.from.given.n p w) where
+      abbrev pub shortenable : Shortenable nodes front before p w.last
+      shortenable = record { start = g; leads = (k linked).leads; variable = (k linked).variable }
+
+      pub shortened : {after : List ℕ} → ((h : Shortenable nodes front before p w.last) → Eased h.start.from.given.known (bindings h.start.from.given.ss nodes h.start.from.state h.start.from.given.n) before after) → Followed g after w.end
+      shortened f = record { derefs = (k linked).derefs; eased = f shortenable }
 
 -- ---- two terms
 
@@ -476,4 +543,68 @@ module _ {nodes state before : List ℕ} {p q : At} (g : Both nodes state before
         left = record { leads = a.leads; stops = a.stops e };
         right = record { leads = a1.leads; stops = a1.stops e1 };
         eased = eased-refl (bindings g.left.from.given.ss nodes g.left.from.state g.left.from.given.n) before g.left.cuts;
+      }
+
+-- ---- two variables that led to one term
+
+pub joined-none : {nodes before : List ℕ} {p q : At} {e : Ends} → Joined nodes before before p q e
+joined-none {nodes} {before} = record { beside = record { long = refl; low = λ j l. refl; counts = λ j l h. refl; high = λ j l. refl }; cuts = λ b m k. k }
+
+module _ {nodes before : List ℕ} {p q : At} (g : Pairable nodes before p q) {w z : ℕ} (ew : w ≡ get_or nodes p.node 0) (ez : z ≡ get_or nodes q.node 0) (lw : w < first_name) (lz : z < first_name) {x y : ℕ} (ex : x ≡ cell_of p.copy w) (ey : y ≡ cell_of q.copy z) where
+  pub left-cell : x < cells
+  left-cell = let a : cell_of p.copy w < cells = cell-small p.copy w g.copy lw in omega (arith, ex)
+
+  pub right-cell : y < cells
+  right-cell = let a : cell_of q.copy z < cells = cell-small q.copy z g.copy_right lz in omega (arith, ey)
+
+  left-place : x ≡ cell_at_place nodes p
+  left-place = ex ∙ ap (cell_of p.copy) ew
+
+  right-place : y ≡ cell_at_place nodes q
+  right-place = ey ∙ ap (cell_of q.copy) ez
+
+  low-left : get_or nodes p.node 0 < first_name
+  low-left = subst (λ (k : ℕ). k < first_name) ew lw
+
+  low-right : get_or nodes q.node 0 < first_name
+  low-right = subst (λ (k : ℕ). k < first_name) ez lz
+
+  module _ {e : Ends} (same : e.left ≡ e.right) {after : List ℕ} where
+    pub joined-left : Cutting before after x y → Joined nodes before after p q e
+    joined-left k = record { beside = k.beside; cuts = λ b m c. k.cuts b (ap (cell_means b) left-place ∙ (m same low-left low-right ∙ sym (ap (cell_means b) right-place))) c }
+
+    pub joined-right : Cutting before after y x → Joined nodes before after p q e
+    joined-right k = record { beside = k.beside; cuts = λ b m c. k.cuts b (ap (cell_means b) right-place ∙ (sym (m same low-left low-right) ∙ sym (ap (cell_means b) left-place))) c }
+
+  pub known-same : Cut before x y → KnownSame nodes before p q
+  known-same k = record { left = low-left; right = low-right; cut = subst (λ (i : ℕ). Cut before i (cell_at_place nodes q)) left-place (subst (Cut before x) right-place k) }
+
+-- what both lead to, with the cuts that come of it
+module _ {nodes state before : List ℕ} {p q : At} (g : Both nodes state before p q) {after : List ℕ} {r : Ends} (f : BothFollowed g after r) where
+  pub both-pairable : Pairable nodes after p q
+  both-pairable =
+      record {
+        inside = inside nodes state p.node p.copy g.left.from;
+        inside_right = inside nodes state q.node q.copy (right-from g);
+        copy = g.left.from.given.copy;
+        copy_right = g.copy;
+        roomy = eased-roomy f.eased g.left.roomy;
+      }
+
+  pub both-joined : {later : List ℕ} → Joined nodes after later p q r → BothFollowed g later r
+  both-joined {later} k =
+      record {
+        left = f.left;
+        right = f.right;
+        eased = eased-trans f.eased
+            (record {
+              beside = k.beside;
+              cuts = λ t. k.cuts (bindings g.left.from.given.ss nodes g.left.from.state g.left.from.given.n)
+                  (λ e l h.
+                  term_is nodes state p.node p.copy g.left.from refl l refl
+                  ∙ (sym (f.left.leads.means t)
+                  ∙ (ap (λ (a : At). resolve (bindings g.left.from.given.ss nodes g.left.from.state g.left.from.given.n) (term_at g.left.from.given.ss nodes a.node a.copy)) e
+                  ∙ (f.right.leads.means t ∙ sym (term_is nodes state q.node q.copy (right-from g) refl h refl)))))
+                  (f.eased.cuts t);
+            });
       }

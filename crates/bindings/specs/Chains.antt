@@ -8,13 +8,10 @@ use Rattle.run_layout.specs.State.{cell_of, cell_at, bindings}
 use Rattle.run_layout.specs.declared.terms.At.{At}
 use Rattle.bindings.specs.Cells.{StoredTerm, MeansSame, Dereferences}
 use Rattle.bindings.specs.Scratch.{Roomy}
-use Rattle.bindings.specs.Cuts.{Cuts, CutsOnly}
+use Rattle.bindings.specs.Cuts.{Cuts, CutsOnly, cell_means, cell_at_place}
 use Rattle.bindings.specs.declared.shortcuts.Stage.{Stage}
+use Rattle.bindings.specs.declared.shortcuts.Way.{Way}
 use Rattle.bindings.specs.declared.shortcuts.Ends.{Ends}
-
--- A cut leads over so many links, or cuts.
-abbrev pub stride_links : ℕ
-stride_links = 32
 
 -- A run-time term in a store, the words of whose cells are at hand.
 pub record Fronted (nodes front : List ℕ) (p c : ℕ) : Type 0 where
@@ -45,26 +42,28 @@ pub record Staged (known : Bool) (ss : List Symbol) (nodes state : List ℕ) (n 
   pub leads : MeansSame known ss nodes state n p c r.at.node r.at.copy
   pub stops : r.next ≡ None → get_or nodes r.at.node 0 < first_name → cell_at state (cell_of r.at.copy (get_or nodes r.at.node 0)) ≡ 0
 
--- Two variables, the second of an earlier cell.
-pub record Further (nodes : List ℕ) (p c q d : ℕ) : Type 0 where
-  pub from : get_or nodes p 0 < first_name
-  pub to : get_or nodes q 0 < first_name
-  pub down : cell_of d (get_or nodes q 0) < cell_of c (get_or nodes p 0)
+-- A term and the one that it leads on to.
+pub record Linked (nodes front scratch : List ℕ) (p : At) (a : At) : Type 0 where
+  pub start : Followable nodes front scratch p.node p.copy
+  pub next : NextOfChain start.from.given.known start.from.given.ss nodes start.from.state start.from.given.n p.node p.copy a
 
--- The same as a walk, which has come to an earlier cell where there is a next term.
-pub record Strode (known : Bool) (ss : List Symbol) (nodes state : List ℕ) (n p c : ℕ) (r : Stage) : Type 0 where
-  pub staged : Staged known ss nodes state n p c r
-  pub further : (r.next ≡ None → ⊥) → Further nodes p c r.at.node r.at.copy
+-- Where a chain ends, and its last variable before that.
+pub record ChainEnd (known : Bool) (ss : List Symbol) (nodes state : List ℕ) (n : ℕ) (p : At) (r : Way) : Type 0 where
+  pub derefs : Dereferences known ss nodes state n p.node p.copy r.end.node r.end.copy
+  pub leads : MeansSame known ss nodes state n p.node p.copy r.last.node r.last.copy
+  pub variable : get_or nodes r.last.node 0 < first_name
 
--- Two variables.
-pub record Cuttable (nodes scratch : List ℕ) (p c q d : ℕ) : Type 0 where
-  pub left : get_or nodes p 0 < first_name
-  pub right : get_or nodes q 0 < first_name
-  pub inside : p < length nodes
-  pub inside_right : q < length nodes
-  pub copy : c < copies
-  pub copy_right : d < copies
-  pub roomy : Roomy scratch
+-- A term, and a variable that means the same.
+pub record Shortenable (nodes front scratch : List ℕ) (p last : At) : Type 0 where
+  pub start : Followable nodes front scratch p.node p.copy
+  pub leads : MeansSame start.from.given.known start.from.given.ss nodes start.from.state start.from.given.n p.node p.copy last.node last.copy
+  pub variable : get_or nodes last.node 0 < first_name
+
+-- the variable at a place
+pub record VariableAt (nodes : List ℕ) (p : At) : Type 0 where
+  pub inside : p.node < length nodes
+  pub variable : get_or nodes p.node 0 < first_name
+  pub copy : p.copy < copies
 
 -- Only cuts and their slots changed, and the cuts are right, where that is known.
 pub record Eased (known : Bool) (b : List Binding) (before after : List ℕ) : Type 0 where
@@ -87,3 +86,19 @@ pub record BothFollowed {nodes front before : List ℕ} {p q : At} (g : Both nod
   pub left : Dereferences g.left.from.given.known g.left.from.given.ss nodes g.left.from.state g.left.from.given.n p.node p.copy r.left.node r.left.copy
   pub right : Dereferences g.left.from.given.known g.left.from.given.ss nodes g.left.from.state g.left.from.given.n q.node q.copy r.right.node r.right.copy
   pub eased : Eased g.left.from.given.known (bindings g.left.from.given.ss nodes g.left.from.state g.left.from.given.n) before after
+
+-- Two terms at places of a table, and room for cuts.
+pub record Pairable (nodes scratch : List ℕ) (p q : At) : Type 0 where
+  pub inside : p.node < length nodes
+  pub inside_right : q.node < length nodes
+  pub copy : p.copy < copies
+  pub copy_right : q.copy < copies
+  pub roomy : Roomy scratch
+
+-- Where two variables led to one term, a cut from the later to the earlier.
+pub record Joined (nodes before after : List ℕ) (p q : At) (e : Ends) : Type 0 where
+  pub beside : CutsOnly before after
+  pub cuts : (b : List Binding)
+      → (e.left ≡ e.right → get_or nodes p.node 0 < first_name → get_or nodes q.node 0 < first_name
+      → cell_means b (cell_at_place nodes p) ≡ cell_means b (cell_at_place nodes q))
+      → Cuts b before → Cuts b after

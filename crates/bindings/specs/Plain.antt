@@ -1,13 +1,8 @@
--- Scratch words in which no cell is marked, and bindings of which it is plain that they close no cycle.
-use Rattle.std.specs.Prelude.{◌≡◌, ℕ, ◌+◌, ◌*◌, ◌<◌, ◌≤◌, ◌⊎◌, List, length, slice_index, slice_index_or}
+-- Bindings of which it is plain that they close no cycle.
+use Rattle.std.specs.Prelude.{◌≡◌, ℕ, ◌+◌, ◌*◌, ◌<◌, ◌≤◌, ◌⊎◌, List, slice_index, slice_index_or}
 use Rattle.syntax.specs.Words.{first_name}
-use Rattle.run_layout.specs.Regions.{copies, copy_cells, cells, store_words, loaded_node}
+use Rattle.run_layout.specs.Regions.{copies, copy_cells, loaded_node}
 use Rattle.run_layout.specs.State.{cell_of, copy_of, cell_at}
-
--- No cell is marked.
-pub record Clean (scratch : List ℕ) : Type 0 where
-  pub long : store_words ≤ length scratch
-  pub zero : (y : ℕ) → y < cells → slice_index scratch y ≡ 0
 
 -- The cells of copies below k are bound to terms of such copies. So no variable of another copy stands in a term of these, whatever is put in.
 pub record Closed (k : ℕ) (state : List ℕ) : Type 0 where

@@ -22,7 +22,7 @@ use words::tables::word_at;
 const COUNTED: usize = 32;
 
 // A pair that weighs less is never remembered.
-const HEAVY: usize = 16;
+const HEAVY: usize = 8;
 
 // The most that a weight counts.
 const HEAVIEST: usize = 1048576;

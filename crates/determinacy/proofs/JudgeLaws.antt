@@ -23,7 +23,7 @@ use Rattle.determinacy.specs.declared.Determinacy.{Determinacy}
 use Rattle.determinacy.specs.declared.Determinacy.TheVariants.{No}
 use Rattle.determinacy.specs.Told.{told}
 use Rattle.determinacy.specs.Clauses.{told_number, ClausesIn}
-use Rattle.run_layout.specs.Rooms.{Zeros}
+use Rattle.run_layout.specs.Rooms.{Zeros, ProgramRoom}
 use Rattle.determinacy.specs.Tables.{SheetReady, SheetLinked, PairsReady}
 use Rattle.determinacy.proofs.Numbers.{number-none, number-some}
 use Rattle.determinacy.proofs.PairLaws.{told-no}
@@ -61,16 +61,20 @@ empty-limited : GoalLimited empty
 unfolding literals_of
 empty-limited = record { each = tt; short = record { few = omega arith; filled = tt } }
 
+-- cleared tables are room for it
+pub room : {nodes symbols code : List ℕ} → Zeros nodes_words nodes → Zeros nodes_words symbols → Zeros code_words code → ProgramRoom nodes symbols code
+room x y z = record { nodes_long = x.long; symbols_long = y.long; code_long = z.long }
+
 -- the words lent for its text and its table
 abbrev nothing : List ℕ
 nothing = 0 ∷ []
 
 module _ {s declared : List ℕ} {n : ℕ} {table : List ℕ} {k : ℕ} where
-  pub loads : {nodes symbols : List ℕ} → Zeros nodes_words nodes → Zeros nodes_words symbols → SheetReady s declared n table k → Loadable s table k nothing nothing 0 nodes symbols
+  pub loads : {nodes symbols code : List ℕ} → ProgramRoom nodes symbols code → SheetReady s declared n table k → Loadable s table k nothing nothing 0 nodes symbols
   unfolding body_words
-  loads {nodes} {symbols} z y w =
-      let a : nodes_words ≡ length nodes = z.long in
-      let b : nodes_words ≡ length symbols = y.long in
+  loads {nodes} {symbols} z w =
+      let a : nodes_words ≡ length nodes = z.nodes_long in
+      let b : nodes_words ≡ length symbols = z.symbols_long in
       record {
         tables = record {
           sh = w.stands.sheet;
@@ -92,17 +96,17 @@ module _ {s declared : List ℕ} {n : ℕ} {table : List ℕ} {k : ℕ} where
         symbols_short = omega arith;
       }
 
-  module _ {nodes0 symbols0 nodes symbols : List ℕ} (z : Zeros nodes_words nodes0) (y : Zeros nodes_words symbols0) (a : length nodes ≡ length nodes0)
+  module _ {nodes0 symbols0 code0 nodes symbols : List ℕ} (z : ProgramRoom nodes0 symbols0 code0) (a : length nodes ≡ length nodes0)
       (f : (v : Loadable s table k nothing nothing 0 nodes0 symbols0) → Loaded s nothing v.tables.sh v.tables.g nodes symbols) where
     loaded : (w : SheetReady s declared n table k) → Loaded s nothing w.stands.sheet empty nodes symbols
     unfolding loads
-    loaded w = f (loads z y w)
+    loaded w = f (loads z w)
 
-    pub links : {code0 : List ℕ} → Zeros code_words code0 → SheetReady s declared n table k → Linkable table k nothing 0 nodes code0
+    pub links : SheetReady s declared n table k → Linkable table k nothing 0 nodes code0
     unfolding body_words
-    links {code0} x w =
-        let b : code_words ≡ length code0 = x.long in
-        let d : nodes_words ≡ length nodes0 = z.long in
+    links w =
+        let b : code_words ≡ length code0 = z.code_long in
+        let d : nodes_words ≡ length nodes0 = z.nodes_long in
         record {
           ss = (loaded w).ss;
           sh = w.stands.sheet;
@@ -123,10 +127,10 @@ module _ {s declared : List ℕ} {n : ℕ} {table : List ℕ} {k : ℕ} where
           code_short = omega arith;
         }
 
-    module _ {code0 code : List ℕ} (x : Zeros code_words code0) (p : (v : Linkable table k nothing 0 nodes code0) → Program v.ss v.sh v.g nodes code) where
+    module _ {code : List ℕ} (p : (v : Linkable table k nothing 0 nodes code0) → Program v.ss v.sh v.g nodes code) where
       pub linked : SheetReady s declared n table k → SheetLinked s declared n table k nodes code
       unfolding links
-      linked w = record { stands = w.stands; ss = (loaded w).ss; g = empty; program = p (links x w) }
+      linked w = record { stands = w.stands; ss = (loaded w).ss; g = empty; program = p (links w) }
 
       pub ready-judged : {r : Determinacy}
           → ((v : SheetLinked s declared n table k nodes code) → r ≡ told (judged_by (first_pair v.stands.sheet.declarations 1 v.stands.sheet.clauses)))

@@ -17,6 +17,9 @@ use Rattle.marks.specs.Tables.{AtomAt}
 use Rattle.marks.specs.InTables.{DeclarationsIn}
 use Rattle.marks.specs.declared.declarations.Declarations.{Declarations}
 use Rattle.machine.specs.Machine.{clause_at}
+use Rattle.run_layout.specs.Rooms.{Clean}
+use Rattle.run_layout.specs.Nodes.{Symbol}
+use Rattle.run_layout.proofs.State.{none-bound}
 use Rattle.load.specs.declared.records.Compiled.{Compiled}
 use Rattle.machine.specs.Determinacy.{first_overlap, Pair, first_pair, judged_by}
 use Rattle.determinacy.specs.Told.{told}
@@ -27,6 +30,10 @@ use Rattle.determinacy.specs.Tables.{PairsReady}
 use Rattle.determinacy.proofs.BracketLaws.{clause-inside, head-has}
 use Rattle.determinacy.proofs.Clauses.{drop-tail, drop_nth}
 use Rattle.determinacy.proofs.Numbers.{number-none, number-some}
+
+-- words without bindings are clean
+blank-clean : {ss : List Symbol} {nodes state scratch : List ℕ} → NothingBound ss nodes state scratch → Clean state × Clean scratch
+blank-clean {ss} {nodes} {state} b = (none-bound ss nodes state b.store.raw, b.clean)
 
 abbrev pair-choice : List Declaration → ℕ → List Clause → Option ℕ → Option Pair
 pair-choice ds n cls o = elim o [ none ↦ first_pair ds (suc n) cls | some m ↦ some (record { first = n; second = m }) ]
@@ -83,6 +90,9 @@ module _ {declared : Declarations} {table : List ℕ} {k : ℕ} {program : Compi
           → Yes ≡ told (judged_by (first_pair sheet.declarations 1 sheet.clauses))
       by [] c e = let z : first_pair sheet.declarations (suc i) [] ≡ none = (unfold first_pair in refl) in sym (ap (λ (p : Option Pair). told (judged_by p)) (e ∙ z) ∙ told-yes)
       by (x ∷ cls) c e = absurd (let z : k ≡ i + suc (length cls) = c in omega arith)
+
+  pub range-leaves : {state later : List ℕ} {at i : ℕ} → Ranging state later at i → Clean state × Clean later
+  range-leaves o = blank-clean o.blank
 
   -- the first of what is left, and the others
   record Turn (at i : ℕ) : Type 0 where
@@ -151,6 +161,9 @@ module _ {declared : Declarations} {table : List ℕ} {k : ℕ} {program : Compi
         blank_after : NothingBound w.linked.ss program.nodes.now state1 later1
         unfolding range_of
         blank_after = (f range_of).blank
+
+        pub range-left : Clean state1 × Clean later1
+        range-left = blank-clean blank_after
 
         pub range_stops : {m : ℕ} → r ≡ Some m → No (i + 1) m ≡ told (judged_by (first_pair sheet.declarations 1 sheet.clauses))
         range_stops {m} d =

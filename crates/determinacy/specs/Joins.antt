@@ -10,7 +10,7 @@ use Rattle.machine.specs.Determinacy.{inputs_by, joined}
 use Rattle.run_layout.specs.Nodes.{Symbol, Node, TermLoaded, TermsLoaded, loaded_all}
 use Rattle.run_layout.specs.State.{bindings, Store, WithinCopies}
 use Rattle.bindings.specs.Scratch.{Roomy}
-use Rattle.bindings.specs.Plain.{Clean}
+use Rattle.run_layout.specs.Rooms.{Clean}
 use Rattle.unify.specs.Turns.{answered}
 use Rattle.unify.specs.declared.solve.UnifyAnswer.{UnifyAnswer}
 

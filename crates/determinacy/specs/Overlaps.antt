@@ -10,7 +10,7 @@ use Rattle.run_layout.specs.Nodes.{Symbol}
 use Rattle.run_layout.specs.State.{Store}
 use Rattle.run_layout.specs.Program.{Program}
 use Rattle.bindings.specs.Scratch.{Roomy}
-use Rattle.bindings.specs.Plain.{Clean}
+use Rattle.run_layout.specs.Rooms.{Clean}
 use Rattle.determinacy.specs.Clauses.{told_number}
 
 -- ---- the next clause of a predicate

@@ -1,6 +1,7 @@
 // Pairs of clauses of one predicate whose + arguments have a common instance.
 ghost use Rattle.std.specs.Prelude.{◌≡◌, ◌+◌};
 ghost use Rattle.machine.specs.Determinacy.{first_pair, judged_by};
+ghost use Rattle.run_layout.specs.Rooms.{Clean};
 ghost use Rattle.determinacy.specs.Told.{told};
 ghost use Rattle.determinacy.specs.Tables.{PairsReady};
 
@@ -12,7 +13,7 @@ use syntax::CLAUSE_START;
 use words::tables::past_clause;
 
 /// Looks for the first two clauses of one predicate that overlap, the lowest first clause and the first behind it: `No` with their numbers, and `Yes` where
-/// there are none.
+/// there are none. The words lent for unification are left without bindings.
 pub fn first_pair(
     declarations: Declarations,
     table: &[u32],
@@ -22,8 +23,9 @@ pub fn first_pair(
     scratch: &mut [u32],
 ) -> Determinacy
     requires { PairsReady declarations table.now k program state.old scratch.old }
-    ensures { (w : PairsReady declarations.entry table.now k program.entry state.old scratch.old) → result
+    ensures is { (w : PairsReady declarations.entry table.now k program.entry state.old scratch.old) → result
         ≡ told (judged_by (first_pair w.linked.stands.sheet.declarations 1 w.linked.stands.sheet.clauses)) }
+    ensures leaves { Clean state.new × Clean scratch.new }
 {
     let read = ReadText {
         text: declarations.text,

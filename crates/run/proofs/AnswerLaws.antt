@@ -3,10 +3,9 @@ use Prim.Native.Nat.{ℕ, zero, suc, ◌+◌, ◌-◌, ◌*◌, ◌≤◌, ◌<�
 use native.Mathlib.Omega.{arith}
 use mathlib.Core.Path.{◌≡◌, refl, sym, ap, ap₂, ◌∙◌, subst, subst⁻¹}
 use mathlib.Core.Bool.{Bool, true, false, cond}
-use mathlib.Core.List.{List, ◌++◌}
+use mathlib.Core.List.{List}
 use lib.Dec.{leb, eqb}
-use lib.ListN.{length, take, get_or-append}
-use lib.Seq.{length-take-le, get_or-take}
+use lib.ListN.{length}
 use borrow.Author.Tests.{ne_eqb}
 use Rattle.syntax.specs.Terms.{Sheet, Goal}
 use Rattle.syntax.specs.declared.RunEnd.{RunEnd}
@@ -16,7 +15,7 @@ use Rattle.run.specs.Ends.{ended_by}
 use Rattle.machine.specs.Machine.{Alternative}
 use Rattle.machine.specs.Answers.{line}
 use Rattle.machine.specs.Runs.{is_empty, is_answer, goes_deeper}
-use Rattle.run_layout.specs.Regions.{alternatives, alternative_of, alternative_size, most_alternatives, state_words, store_words, stack}
+use Rattle.run_layout.specs.Regions.{alternatives, alternative_of, alternative_size, most_alternatives, state_words}
 use Rattle.run_layout.specs.Nodes.{Symbol}
 use Rattle.run_layout.specs.State.{bindings}
 use Rattle.run_layout.specs.Pile.{pile_of, mark_at}
@@ -24,15 +23,16 @@ use Rattle.machine.specs.Low.{Low}
 use Rattle.run_layout.proofs.Pile.{height, undone, Means}
 use Rattle.bindings.specs.Cells.{Stored, Undone}
 use Rattle.bindings.proofs.Deref.{undone-store}
-use Rattle.answers.specs.Fitting.{Answerable, SomeAnswerable, Fitted}
-use Rattle.bindings.specs.Scratch.{SameMarks, Roomy}
+use Rattle.answers.specs.Fitting.{Answerable, SomeAnswerable, Tellable, Fitted}
+use Rattle.run_layout.specs.Rooms.{Clean}
+use Rattle.bindings.specs.Scratch.{Roomy}
 use Rattle.run.specs.Meanings.{Meaning, pile_in, PiledIn}
 use Rattle.run.specs.Steps.{Running, meaning, Steppable, Stepped}
 use Rattle.run.specs.declared.alternatives.PileHeight.{PileHeight}
 use Rattle.run.specs.declared.telling.LoadedProgram.{LoadedProgram}
 use Rattle.run.specs.declared.telling.Next.{Next}
 use Rattle.run.specs.declared.telling.Next.TheVariants.{End, Answer, Step}
-use Rattle.run.specs.Telling.{before_step, solution_of, meaning_of, Tellable, Rewindable, SamePile, Rewound, Answering, Answered}
+use Rattle.run.specs.Telling.{before_step, solution_of, meaning_of, Rewindable, SamePile, Rewound, Answering, Answered}
 use Rattle.std.specs.Borrow.{Bor}
 use Rattle.run.proofs.EndLaws.{answer-flat}
 use Rattle.answers.specs.Telling.{names_of}
@@ -130,15 +130,6 @@ rewind-low {state} {h} {n} {m} w e = subst⁻¹ (λ (x : ℕ). x ≤ n) e (rewin
 pub rewind-ends : {state after : List ℕ} {h n m : ℕ} (w : Rewindable state h n) → m ≡ mark_at state (h - 1) → Undone state after m n → Rewound state after h n m
 rewind-ends {state} {after} {h} {n} {m} w e u = subst⁻¹ (Rewound state after h n) e (rewind-end w (subst (λ (x : ℕ). Undone state after x n) e u))
 
--- ---- the scratch words behind the pending cells
-
-pub part-marks : (xs zs : List ℕ) → stack ≤ length xs → length (take stack xs ++ zs) ≡ length xs → SameMarks xs (take stack xs ++ zs)
-part-marks xs zs l e =
-    record {
-      long = e;
-      words = λ j k. (let m : length (take stack xs) ≡ stack = length-take-le stack xs l in get_or-append (take stack xs) zs 0 j (omega arith)) ∙ get_or-take stack xs j 0 k;
-    }
-
 -- ---- an answer
 
 none-some : (k : ℕ) → ◌≡◌ {A = Option ℕ} None (Some k) → ⊥
@@ -158,17 +149,14 @@ module _ {loaded : LoadedProgram} {state scratch text : List ℕ} {h n at : ℕ}
     pub answer-room : (at ≤ length text) × Tellable scratch (length text - at)
     answer-room = (w.room, (let x : Tellable scratch (length text) = w.under.lent.deep in omega arith))
 
-    pub answer-steps : {scratch1 : List ℕ} → SameMarks scratch scratch1 → Steppable m.nodes m.code mid scratch1 h trail
-    answer-steps {scratch1} y =
+    pub answer-steps : {scratch1 : List ℕ} → length scratch1 ≡ length scratch → Clean scratch1 → Steppable m.nodes m.code mid scratch1 h trail
+    answer-steps {scratch1} e clean =
         record {
           running = record { ss = w.ss; sh = w.sh; g = w.g; piled = same-pile.piled; low = subst⁻¹ Low same-pile.is w.under.low };
           some = w.some;
           goes = ap (goes_deeper w.sh) same-pile.is ∙ answer-flat w.sh (pile_in m state h) w.answer;
-          roomy = (let r : Roomy scratch = w.under.lent.roomy in let e : length scratch1 ≡ length scratch = y.long in omega arith);
-          clean = record {
-            long = (let r : store_words ≤ length scratch = w.under.lent.clean.long in let e : length scratch1 ≡ length scratch = y.long in omega arith);
-            zero = λ j l. y.words j (omega arith) ∙ w.under.lent.clean.zero j l;
-          };
+          roomy = (let r : Roomy scratch = w.under.lent.roomy in omega arith);
+          clean = clean;
         }
 
   -- the state as the line's function is lent it
@@ -183,8 +171,9 @@ module _ {loaded : LoadedProgram} {state scratch text : List ℕ} {h n at : ℕ}
       fitted-here : Fitted (line w.g (bindings w.ss m.nodes mid.now trail)) text at new r
       fitted-here = f w.ss trail w.g tells w.spelt.names_are
 
-      pub answer-full : {scratch1 : List ℕ} → SameMarks scratch scratch1 → r ≡ None → Answered w mid.now scratch1 new (record { at = None; height = h; trail = trail })
-      answer-full {scratch1} y z =
+      pub answer-full : {scratch1 : List ℕ} → length scratch1 ≡ length scratch → Clean scratch1 → r ≡ None
+          → Answered w mid.now scratch1 new (record { at = None; height = h; trail = trail })
+      answer-full {scratch1} e clean z =
           record {
             mid = mid.now;
             between = scratch1;
@@ -193,16 +182,19 @@ module _ {loaded : LoadedProgram} {state scratch text : List ℕ} {h n at : ℕ}
             mark = x.mark;
             told = subst (Fitted (line w.g (bindings w.ss m.nodes mid.now trail)) text at new) z fitted-here;
             stepped = λ k q. absurd (none-some k q);
-            stopped = λ q. (refl, (refl, (refl, (answer-steps x y).clean)));
+            stopped = λ q. (refl, (refl, (refl, clean)));
             state_long = x.long;
-            scratch_long = y.long;
-            later_long = y.long;
+            scratch_long = e;
+            later_long = e;
           }
 
-      pub answer-on : {scratch1 : List ℕ} {past : ℕ} (y : SameMarks scratch scratch1) → r ≡ Some past → (after later : List ℕ) (p : PileHeight) → ((v : Steppable m.nodes m.code mid.now scratch1 h trail) → Stepped (meaning v.running) mid.now after scratch1 later h p) → Answered w after later new (record { at = Some past; height = p.height; trail = p.trail })
+      pub answer-on : {scratch1 : List ℕ} {past : ℕ} → length scratch1 ≡ length scratch → Clean scratch1 → r ≡ Some past
+          → (after later : List ℕ) (p : PileHeight)
+          → ((v : Steppable m.nodes m.code mid.now scratch1 h trail) → Stepped (meaning v.running) mid.now after scratch1 later h p)
+          → Answered w after later new (record { at = Some past; height = p.height; trail = p.trail })
       unfolding answer-steps
-      answer-on {scratch1} {past} y z after later p k =
-          let s : Stepped m mid.now after scratch1 later h p = k (answer-steps x y) in
+      answer-on {scratch1} {past} e clean z after later p k =
+          let s : Stepped m mid.now after scratch1 later h p = k (answer-steps x e clean) in
           record {
             mid = mid.now;
             between = scratch1;
@@ -213,6 +205,6 @@ module _ {loaded : LoadedProgram} {state scratch text : List ℕ} {h n at : ℕ}
             stepped = λ k q. s;
             stopped = λ q. absurd (none-some past (sym q));
             state_long = s.state_long ∙ x.long;
-            scratch_long = y.long;
-            later_long = s.scratch_long ∙ y.long;
+            scratch_long = e;
+            later_long = s.scratch_long ∙ e;
           }

@@ -11,7 +11,7 @@ use Rattle.syntax.specs.declared.RunEnd.{RunEnd}
 use Rattle.syntax.specs.declared.RunEnd.TheVariants.{Full}
 use Rattle.machine.specs.Machine.{Alternative}
 use Rattle.machine.specs.Runs.{Ended, goes_deeper, run_from}
-use Rattle.bindings.specs.Plain.{Clean}
+use Rattle.run_layout.specs.Rooms.{Clean}
 use Rattle.run.specs.Meanings.{Meaning, pile_in}
 use Rattle.run.specs.Steps.{Running, meaning, Steppable, Stepped}
 use Rattle.run.specs.declared.alternatives.PileHeight.{PileHeight}

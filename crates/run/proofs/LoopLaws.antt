@@ -21,12 +21,12 @@ use Rattle.machine.specs.Answers.{line}
 use Rattle.machine.specs.Runs.{Progress, Ended, is_empty, is_answer, next_line, goes_deeper, run_from}
 use Rattle.run_layout.specs.State.{bindings}
 use Rattle.run_layout.specs.Pile.{pile_of, mark_at}
-use Rattle.bindings.specs.Plain.{Clean}
+use Rattle.run_layout.specs.Rooms.{Clean}
 use Rattle.bindings.specs.Scratch.{Roomy}
 use Rattle.run.specs.Meanings.{Meaning, pile_in, PiledIn}
 use Rattle.run.specs.declared.telling.Next.TheVariants.{End, Answer, Step}
-use Rattle.answers.specs.Fitting.{Fitted}
-use Rattle.run.specs.Telling.{before_step, Tellable, Under}
+use Rattle.answers.specs.Fitting.{Tellable, Fitted}
+use Rattle.run.specs.Telling.{before_step, Under}
 use Rattle.run.specs.Turns.{Ongoing, ProgressCarried, Turned}
 use Rattle.run.specs.declared.turns.Carried.{Carried}
 use Rattle.run.proofs.EndLaws.{Goes, Answers, run_ends, run-steps, run-answers}

@@ -7,20 +7,21 @@ use lib.ListN.{length}
 use Rattle.syntax.specs.Words.{goal_words}
 use Rattle.run_layout.specs.Regions.{nodes_words, code_words, state_words}
 use Rattle.run_layout.specs.Program.{Program}
-use Rattle.bindings.specs.Scratch.{Roomy}
 use Rattle.load.specs.Loading.{Loadable, Loaded}
 use Rattle.load.specs.Linking.{Linkable}
 use Rattle.run.specs.declared.telling.LoadedProgram.{LoadedProgram}
 use Rattle.output.specs.declared.results.Written.{Written}
 use Rattle.run.specs.Running.{Runnable, RunWritten}
-use Rattle.run_layout.specs.Rooms.{Zeros}
-use Rattle.run.specs.Programs.{ZeroScratch, LimitedTables, Programmed, LinkedTables, ProgramLinked}
+use Rattle.run_layout.specs.Rooms.{Zeros, ProgramRoom}
+use Rattle.run_layout.proofs.RoomsLaws.{cleared-clean}
+use Rattle.run.specs.Telling.{LentScratch}
+use Rattle.run.specs.Programs.{LimitedTables, Programmed, LinkedTables, ProgramLinked}
 
 module _ {sheet table : List ℕ} {clauses : ℕ} {goal goals : List ℕ} {literals : ℕ} (w : LimitedTables sheet table clauses goal goals literals) where
-  pub loads : {nodes symbols : List ℕ} → Zeros nodes_words nodes → Zeros nodes_words symbols → Loadable sheet table clauses goal goals literals nodes symbols
-  loads {nodes} {symbols} z y =
-      let a : nodes_words ≡ length nodes = z.long in
-      let b : nodes_words ≡ length symbols = y.long in
+  pub loads : {nodes symbols code : List ℕ} → ProgramRoom nodes symbols code → Loadable sheet table clauses goal goals literals nodes symbols
+  loads {nodes} {symbols} z =
+      let a : nodes_words ≡ length nodes = z.nodes_long in
+      let b : nodes_words ≡ length symbols = z.symbols_long in
       record {
         tables = w.tables;
         nodes_room = omega arith;
@@ -29,16 +30,16 @@ module _ {sheet table : List ℕ} {clauses : ℕ} {goal goals : List ℕ} {liter
         symbols_short = omega arith;
       }
 
-  module _ {nodes0 symbols0 nodes symbols : List ℕ} (z : Zeros nodes_words nodes0) (y : Zeros nodes_words symbols0) (a : length nodes ≡ length nodes0) (k : (v : Loadable sheet table clauses goal goals literals nodes0 symbols0) → Loaded sheet goal v.tables.sh v.tables.g nodes symbols) where
+  module _ {nodes0 symbols0 code0 nodes symbols : List ℕ} (z : ProgramRoom nodes0 symbols0 code0) (a : length nodes ≡ length nodes0) (k : (v : Loadable sheet table clauses goal goals literals nodes0 symbols0) → Loaded sheet goal v.tables.sh v.tables.g nodes symbols) where
     loaded : Loaded sheet goal w.tables.sh w.tables.g nodes symbols
     unfolding loads
-    loaded = k (loads z y)
+    loaded = k (loads z)
 
-    pub links : {code0 : List ℕ} → Zeros code_words code0 → Linkable table clauses goals literals nodes code0
-    links {code0} x =
-        let b : code_words ≡ length code0 = x.long in
+    pub links : Linkable table clauses goals literals nodes code0
+    links =
+        let b : code_words ≡ length code0 = z.code_long in
         let c : length goals ≤ goal_words = w.tables.goals_short in
-        let d : nodes_words ≡ length nodes0 = z.long in
+        let d : nodes_words ≡ length nodes0 = z.nodes_long in
         record {
           ss = loaded.ss;
           sh = w.tables.sh;
@@ -59,10 +60,10 @@ module _ {sheet table : List ℕ} {clauses : ℕ} {goal goals : List ℕ} {liter
           code_short = omega arith;
         }
 
-    module _ {code0 code : List ℕ} (x : Zeros code_words code0) (p : (v : Linkable table clauses goals literals nodes code0) → Program v.ss v.sh v.g nodes code) where
+    module _ {code : List ℕ} (p : (v : Linkable table clauses goals literals nodes code0) → Program v.ss v.sh v.g nodes code) where
       program : Program loaded.ss w.tables.sh w.tables.g nodes code
       unfolding links
-      program = p (links x)
+      program = p links
 
       pub linked_tables : LinkedTables sheet goal w.tables.sh w.tables.g nodes symbols code
       linked_tables = record { ss = loaded.ss; program = program; spelt = loaded.names }
@@ -92,10 +93,9 @@ module _ (l : LoadedProgram) {table : List ℕ} {clauses : ℕ} {goals : List �
   program_runs q = q linked
 
 module _ {l : LoadedProgram} (w : ProgramLinked l) where
-  unfoldable pub runnable : {state scratch text : List ℕ} → Zeros state_words state → ZeroScratch scratch (length text) → Runnable l state scratch text
+  unfoldable pub runnable : {state scratch text : List ℕ} → Zeros state_words state → LentScratch scratch (length text) → Runnable l state scratch text
   runnable {state} {scratch} {text} z y =
       let a : state_words ≡ length state = z.long in
-      let b : Roomy scratch = y.roomy in
       record {
         ss = w.ss;
         sh = w.sh;
@@ -103,10 +103,10 @@ module _ {l : LoadedProgram} (w : ProgramLinked l) where
         spelt = w.spelt;
         program = w.program;
         long = omega arith;
-        zero_words = z.zero_words;
-        lent = record { roomy = omega arith; clean = record { long = omega arith; zero = λ i l. y.zero_words i }; deep = y.tells };
+        clean = cleared-clean state_words state z (omega arith);
+        lent = y;
       }
 
-  pub linked_runs : {state scratch text : List ℕ} {allowance wanted : ℕ} {old new : List ℕ} {r : Written} → Zeros state_words state → ZeroScratch scratch (length text) → ((v : Runnable l state scratch text) → RunWritten v.sh v.g allowance wanted old new r) → RunWritten w.sh w.g allowance wanted old new r
+  pub linked_runs : {state scratch text : List ℕ} {allowance wanted : ℕ} {old new : List ℕ} {r : Written} → Zeros state_words state → LentScratch scratch (length text) → ((v : Runnable l state scratch text) → RunWritten v.sh v.g allowance wanted old new r) → RunWritten w.sh w.g allowance wanted old new r
   unfolding runnable
   linked_runs z y k = k (runnable z y)

@@ -129,7 +129,7 @@ module _ (nodes code state : List ℕ) (w : Startable nodes code state) where
       (subst (λ (x : ℕ). Written 0 q.spot.copy x q.next 0 0 state after) l (lays-written q goal-room)) in
       let rest : rest_from w.sh w.g code state q.spot.copy q.spot.literal ≡ w.g.body = ap₂ (rest_from w.sh w.g code state) c l ∙ goal-rest w.sh w.g code state in
       let m : Means w.ss w.sh w.g nodes code after 1 0 (record { literals = pending 0 w.g.body []; bindings = []; next = q.next; calls = [] } ∷ []) =
-      started w.ss w.sh w.g nodes code state after q.next w.program w.long w.zero_words (λ x y. q.next-for x (subst⁻¹ (λ (b : Body). Calls b x) rest y)) written in
+      started w.ss w.sh w.g nodes code state after q.next w.program w.long w.clean (λ x y. q.next-for x (subst⁻¹ (λ (b : Body). Calls b x) rest y)) written in
       let nxt : q.next ≡ topmost w.sh (pending 0 w.g.body []) = q.next_is ∙ ap (topmost w.sh) (goal-left w.sh w.g code state) in
       record {
         is = m.is ∙ (λ i. record { literals = pending 0 w.g.body []; bindings = []; next = nxt i; calls = [] } ∷ []);

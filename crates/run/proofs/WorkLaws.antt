@@ -21,7 +21,7 @@ use Rattle.run_layout.specs.State.{bindings}
 use Rattle.run_layout.specs.Program.{record_kind, record_place, other_at}
 use Rattle.run_layout.specs.Pile.{rest_from, left_from, calls_up_to, copy_at, literal_at, mark_at, path_at, pile_of, RecordOf, Stacked, Piled}
 use Rattle.run_layout.proofs.State.{keeps-refl}
-use Rattle.bindings.specs.Plain.{Clean}
+use Rattle.run_layout.specs.Rooms.{Clean}
 use Rattle.unify.specs.Turns.{answered, Unifiable, UnifyGives}
 use Rattle.unify.specs.declared.solve.UnifyAnswer.{UnifyAnswer}
 use Rattle.run.specs.Moves.{Layable, AlternativeLaid}

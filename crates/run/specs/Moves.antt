@@ -9,7 +9,7 @@ use Rattle.run_layout.specs.Nodes.{Symbol}
 use Rattle.run_layout.specs.Program.{Program}
 use Rattle.run_layout.specs.Pile.{Calls, rest_from, left_from, copy_at, literal_at, mark_at, path_at, alternative_at, pile_of}
 use Rattle.run_layout.specs.Pile.{RecordOf, NoJump, Frame, NextFor, Piled}
-use Rattle.bindings.specs.Plain.{Clean}
+use Rattle.run_layout.specs.Rooms.{Clean}
 use Rattle.bindings.specs.Scratch.{Roomy}
 use Rattle.run.specs.Words.{top_words}
 use Rattle.run.specs.declared.alternatives.PileHeight.{PileHeight}

@@ -1,23 +1,17 @@
 -- A sheet and a goal as they were read into their tables.
-use Rattle.std.specs.Prelude.{ℕ, ◌+◌, ◌*◌, ◌^◌, ◌<◌, ◌≤◌, ◌≡◌, min, List, get_or}
+use Rattle.std.specs.Prelude.{ℕ, ◌+◌, ◌*◌, ◌^◌, ◌<◌, ◌≤◌, ◌≡◌, min, List}
 use Rattle.run_layout.specs.Regions.{stack, deepest, open_size, rows}
 use Rattle.syntax.specs.Terms.{Sheet, Goal}
-use Rattle.bindings.specs.Scratch.{Roomy}
 use Rattle.run_layout.specs.Nodes.{Symbol}
 use Rattle.run_layout.specs.Limits.{ProgramLimited, GoalLimited}
 use Rattle.run_layout.specs.Program.{Program}
 use Rattle.run_layout.specs.SymbolNames.{SymbolsSpelt}
 use Rattle.syntax.specs.Spans.{names_from}
 use Rattle.answers.specs.Words.{Named}
+use Rattle.answers.specs.Fitting.{Tellable}
 use Rattle.load.specs.Loading.{BothTabled}
 use Rattle.run.specs.declared.telling.LoadedProgram.{LoadedProgram}
-use Rattle.run.specs.Telling.{Spelt, Tellable}
-
--- Words for unification and for answers in a text of so many bytes, all zero.
-pub record ZeroScratch (scratch : List ℕ) (room : ℕ) : Type 0 where
-  pub roomy : Roomy scratch
-  pub tells : Tellable scratch room
-  pub zero_words : (i : ℕ) → get_or scratch i 0 ≡ 0
+use Rattle.run.specs.Telling.{Spelt}
 
 -- so many words are enough for unification, and for answers in a text of so many bytes, and no more than an array can have
 pub record RoomFor (words room : ℕ) : Type 0 where

@@ -1,5 +1,5 @@
 -- What a step is given and what it promises.
-use Rattle.std.specs.Prelude.{ℕ, ◌-◌, ◌≤◌, ◌≡◌, false, List, length, get_or}
+use Rattle.std.specs.Prelude.{ℕ, ◌-◌, ◌≤◌, ◌≡◌, false, List, length}
 use Rattle.syntax.specs.Terms.{Sheet, Goal}
 use Rattle.machine.specs.Machine.{step, start}
 use Rattle.machine.specs.Low.{Low}
@@ -8,7 +8,7 @@ use Rattle.run_layout.specs.Regions.{state_words}
 use Rattle.run_layout.specs.Nodes.{Symbol}
 use Rattle.run_layout.specs.Program.{Program, record_kind}
 use Rattle.run_layout.specs.Pile.{literal_at, mark_at, pile_of, Piled}
-use Rattle.bindings.specs.Plain.{Clean}
+use Rattle.run_layout.specs.Rooms.{Clean}
 use Rattle.bindings.specs.Scratch.{Roomy}
 use Rattle.run.specs.Words.{top_at}
 use Rattle.run.specs.Meanings.{Meaning, pile_in, PiledIn}
@@ -54,14 +54,14 @@ abbrev pub TopStepped : (nodes code before after scratch later : List ℕ) (h : 
 TopStepped nodes code before after scratch later h r =
     (w : Steppable nodes code before scratch h (mark_at before (h - 1))) → Stepped (meaning w.running) before after scratch later h r
 
--- a loaded program, and a state of zeros
+-- a loaded program, and a state in which no cell is bound
 pub record Startable (nodes code state : List ℕ) : Type 0 where
   pub ss : List Symbol
   pub sh : Sheet
   pub g : Goal
   pub program : Program ss sh g nodes code
   pub long : state_words ≤ length state
-  pub zero_words : (i : ℕ) → get_or state i 0 ≡ 0
+  pub clean : Clean state
 
 -- "At first there is one, the goal, path 0."
 pub record Started {nodes code before : List ℕ} (w : Startable nodes code before) (after : List ℕ) : Type 0 where

@@ -1,23 +1,22 @@
 -- What comes before a step, and what telling an answer is given and promises.
-use Rattle.std.specs.Prelude.{ℕ, min, ◌+◌, ◌-◌, ◌*◌, ◌≤◌, ◌≡◌, true, cond, List, leb, eqb, length, Some, None}
+use Rattle.std.specs.Prelude.{ℕ, ◌-◌, ◌≤◌, ◌≡◌, true, cond, List, leb, eqb, length, Some, None}
 use Rattle.syntax.specs.Terms.{Sheet, Goal}
 use Rattle.syntax.specs.declared.RunEnd.TheVariants.{Wanted, Done, Steps, Deep}
 use Rattle.machine.specs.Machine.{Alternative}
 use Rattle.machine.specs.Low.{Low}
 use Rattle.machine.specs.Answers.{line}
 use Rattle.machine.specs.Runs.{is_empty, is_answer, goes_deeper}
-use Rattle.run_layout.specs.Regions.{deepest, open_size, stack}
 use Rattle.run_layout.specs.Nodes.{Symbol}
 use Rattle.run_layout.specs.State.{bindings}
 use Rattle.run_layout.specs.Pile.{mark_at}
-use Rattle.bindings.specs.Plain.{Clean}
+use Rattle.run_layout.specs.Rooms.{Clean}
 use Rattle.bindings.specs.Scratch.{Roomy}
 use Rattle.syntax.specs.Spans.{names_from}
 use Rattle.run_layout.specs.SymbolNames.{SymbolsSpelt}
 use Rattle.answers.specs.Words.{Named}
 use Rattle.std.specs.Borrow.{Bor}
 use Rattle.answers.specs.declared.Solution.{Solution}
-use Rattle.answers.specs.Fitting.{Fitted}
+use Rattle.answers.specs.Fitting.{Tellable, Fitted}
 use Rattle.run.specs.Meanings.{Meaning, pile_in, PiledIn}
 use Rattle.run.specs.Steps.{Stepped}
 use Rattle.run.specs.declared.telling.AnswerTold.{AnswerTold}
@@ -56,10 +55,6 @@ solution_of loaded state =
 -- what the tables of a loaded program mean
 abbrev pub meaning_of : List Symbol → Sheet → Goal → LoadedProgram → Meaning
 meaning_of ss sh g loaded = record { ss = ss; sh = sh; g = g; nodes = loaded.nodes.now; code = loaded.code.now }
-
--- scratch words whose part behind the pending cells is an ample stack for the brackets of an answer with so many bytes of room
-abbrev pub Tellable : List ℕ → ℕ → Type 0
-Tellable scratch room = min (deepest * open_size) (room * 2 + 4) + stack ≤ length scratch
 
 -- what a run is lent: scratch words without a mark, for unification and for answers in a text of so many bytes
 pub record LentScratch (scratch : List ℕ) (room : ℕ) : Type 0 where

@@ -2,9 +2,9 @@
 
 ghost use Rattle.std.specs.Prelude.{length};
 ghost use Rattle.run.specs.Running.{RunWritten};
-ghost use Rattle.run.specs.Programs.{RoomFor, ZeroScratch, LimitedTables, Programmed, LinkedTables, ProgramLinked};
-ghost use Rattle.run_layout.specs.Regions.{nodes_words, code_words};
-ghost use Rattle.run_layout.specs.Rooms.{Zeros};
+ghost use Rattle.run.specs.Telling.{LentScratch};
+ghost use Rattle.run.specs.Programs.{RoomFor, LimitedTables, Programmed, LinkedTables, ProgramLinked};
+ghost use Rattle.run_layout.specs.Rooms.{ProgramRoom};
 
 use crate::telling::LoadedProgram;
 use crate::whole_runs::run;
@@ -26,7 +26,7 @@ fn with_state(
     allowance: usize,
     wanted: usize,
 ) -> Written
-    requires { (ProgramLinked loaded) × ZeroScratch scratch.old (length text.old) }
+    requires { (ProgramLinked loaded) × LentScratch scratch.old (length text.old) }
     ensures { (w : ProgramLinked loaded.entry) → RunWritten w.sh w.g allowance wanted text.old text.new result }
 {
     let mut state: [u32; STATE_WORDS] = cleared();
@@ -65,7 +65,7 @@ fn choose_room(loaded: LoadedProgram, text: &mut [u8], allowance: usize, wanted:
     with_room::<NARROW_WORDS>(loaded, text, allowance, wanted, again)
 }
 
-/// Loads and links a sheet and a goal that were read, into cleared tables.
+/// Loads and links a sheet and a goal that were read, into tables of any contents.
 pub fn load_program(
     sheet: ReadSheet<'_>,
     goal: ReadGoal<'_>,
@@ -74,7 +74,7 @@ pub fn load_program(
     code: &mut [u32],
 )
     requires tables { LimitedTables sheet.text.now sheet.table.now sheet.clauses goal.text.now goal.table.now goal.literals }
-    requires zeros { Zeros nodes_words nodes.old × (Zeros nodes_words symbols.old × Zeros code_words code.old) }
+    requires room { ProgramRoom nodes.old symbols.old code.old }
     ensures { (w : LimitedTables sheet.entry.text.now sheet.entry.table.now sheet.entry.clauses goal.entry.text.now goal.entry.table.now
         goal.entry.literals) → LinkedTables sheet.entry.text.now goal.entry.text.now w.tables.sh w.tables.g nodes.new symbols.new code.new }
 {

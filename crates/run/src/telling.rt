@@ -5,12 +5,12 @@ ghost use Rattle.syntax.specs.Terms.{Goal};
 ghost use Rattle.machine.specs.Answers.{line};
 ghost use Rattle.run_layout.specs.Nodes.{Symbol};
 ghost use Rattle.run_layout.specs.State.{bindings};
-ghost use Rattle.bindings.specs.Scratch.{SameMarks};
+ghost use Rattle.run_layout.specs.Rooms.{Clean};
 ghost use Rattle.answers.specs.Telling.{names_of};
-ghost use Rattle.answers.specs.Fitting.{Answerable, SomeAnswerable, Fitted};
+ghost use Rattle.answers.specs.Fitting.{Answerable, SomeAnswerable, Tellable, Fitted};
 ghost use Rattle.run.specs.Meanings.{pile_in};
 ghost use Rattle.run.specs.Steps.{Running, meaning};
-ghost use Rattle.run.specs.Telling.{before_step, solution_of, Tellable, Rewindable, Rewound, Answering, Answered};
+ghost use Rattle.run.specs.Telling.{before_step, solution_of, Rewindable, Rewound, Answering, Answered};
 
 use crate::alternatives::PileHeight;
 use crate::alternatives::records::top_at;
@@ -20,7 +20,6 @@ use answers::Solution;
 use answers::lines::put_answer;
 use bindings::store::undo;
 use load::records::Compiled;
-use run_layout::STACK;
 use syntax::RunEnd;
 
 /// What a run reads and never writes: the two texts, the packed names of the goal's variables (`names`, `count` of them), and the tables of a loaded program.
@@ -89,8 +88,8 @@ pub fn rewind(state: &mut [u32], pile: PileHeight) -> usize
     s.mark
 }
 
-/// Writes the line of an answer from `at` on and returns the position past it; None where it does not fit. The brackets open in a term stand in the scratch
-/// words behind the pending cells.
+/// Writes the line of an answer from `at` on and returns the position past it; None where it does not fit. The marks of the search for a cycle number its
+/// variables meanwhile.
 pub fn tell(
     loaded: LoadedProgram,
     state: &[u32],
@@ -100,12 +99,12 @@ pub fn tell(
 ) -> Option<usize>
     requires some_answerable { SomeAnswerable (solution_of loaded state) }
     requires at_in_bounds { (at ≤ length text.old) × Tellable scratch.old (length text.old - at) }
+    requires clean { Clean scratch.old }
     ensures fitted { (ss : List Symbol) (n : ℕ) (g : Goal) → Answerable ss n (solution_of loaded.entry state.entry)
         → g.names ≡ names_of (solution_of loaded.entry state.entry)
         → Fitted (line g (bindings ss loaded.entry.nodes.now state.now n)) text.old at text.new result }
-    ensures marks { SameMarks scratch.old scratch.new }
+    ensures clean { Clean scratch.new }
 {
-    let from = STACK;
     let solution = Solution {
         nodes: loaded.nodes,
         state,
@@ -115,7 +114,7 @@ pub fn tell(
         names: loaded.names,
         count: loaded.count,
     };
-    put_answer(solution, &mut scratch[from..], text, at)
+    put_answer(solution, scratch, text, at)
 }
 
 /// Tells an answer: writes its line from `at` on, and then takes the step. Where the line does not fit, the step is not taken.

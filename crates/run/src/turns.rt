@@ -1,6 +1,6 @@
 // A turn of a run over loaded words: the step repeated until RULES ends it or the turn's steps are used up.
 
-ghost use Rattle.std.specs.Prelude.{◌+◌, ◌^◌, ◌<◌, length};
+ghost use Rattle.std.specs.Prelude.{◌≡◌, ◌+◌, ◌^◌, ◌<◌, length};
 ghost use Rattle.machine.specs.Runs.{run_from};
 ghost use Rattle.run.specs.Telling.{meaning_of};
 ghost use Rattle.run.specs.Turns.{Underway, Turned};
@@ -21,6 +21,20 @@ pub struct Carried {
     pub steps: usize,
     pub at: usize,
     pub kind: RunEnd,
+}
+
+// What a run carries at its end.
+fn at_end(pile: PileHeight, answers: usize, steps: usize, at: usize, kind: RunEnd) -> Carried
+    ensures { result ≡ record { height = pile.height; trail = pile.trail; answers = answers; steps = steps; at = at; kind = kind } }
+{
+    Carried {
+        height: pile.height,
+        trail: pile.trail,
+        answers,
+        steps,
+        at,
+        kind,
+    }
 }
 
 /// Takes a run at most `k` steps further: the step is repeated until an end applies or the `k` steps are used up. `wanted` counts the answers of the whole run.
@@ -51,33 +65,17 @@ pub fn turn(
     loop {
         let left = allowance - steps;
         match next_of(loaded.code, state, pile, wanted, answers, left) {
-            Next::End(kind) => {
-                return Carried {
-                    height: pile.height,
-                    trail: pile.trail,
-                    answers,
-                    steps,
-                    at,
-                    kind,
-                };
-            }
+            Next::End(kind) => return at_end(pile, answers, steps, at, kind),
             Next::Answer => {
                 let t = answer(loaded, state, scratch, text, pile, at);
-                let Some(past) = t.at else {
-                    return Carried {
-                        height: t.height,
-                        trail: t.trail,
-                        answers,
-                        steps,
-                        at,
-                        kind: RunEnd::Full,
-                    };
-                };
-                at = past;
                 pile = PileHeight {
                     height: t.height,
                     trail: t.trail,
                 };
+                let Some(past) = t.at else {
+                    return at_end(pile, answers, steps, at, RunEnd::Full);
+                };
+                at = past;
                 answers += 1;
                 steps += 1;
             }

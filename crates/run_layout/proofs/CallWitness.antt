@@ -17,7 +17,7 @@ use Rattle.run_layout.specs.Program.{body_at, BodyLoaded, ClauseLoaded, Program}
 use Rattle.run_layout.specs.Pile.{Calls, rest_from, copy_at, literal_at, path_at, NoJump, NextFor, Piled}
 use Rattle.run_layout.proofs.State.{keeps-refl}
 use Rattle.run_layout.proofs.Pile.{place-next, rest-next, goal-place, goal-rest, body-stays, next-for, Written, Framed, Stand, Means, Pushing, pushed, started, written, framed}
-use Rattle.run_layout.proofs.RunLayoutWitness.{zeros, zeros-long, zeros-words}
+use Rattle.run_layout.proofs.RunLayoutWitness.{zeros, zeros-long, zeros-clean}
 
 unfoldable pub symbols : List Symbol
 symbols = record { name = bytes "p"; arguments = 0 } ∷ []
@@ -123,7 +123,7 @@ unfolding goal
 first-clause a h = subst (λ (y : Atom). NextFor sheet y 1) (call-eq atom a h) (subst (NextFor sheet atom) topmost-clause (next-for sheet atom 0))
 
 pub pile : Means symbols sheet goal table code words 1 0 (record { literals = pending 0 goal.body []; bindings = []; next = 1; calls = [] } ∷ [])
-pile = started symbols sheet goal table code zeros words 1 program (let l : length zeros ≡ state_words = zeros-long in omega arith) zeros-words first-clause words-written
+pile = started symbols sheet goal table code zeros words 1 program (let l : length zeros ≡ state_words = zeros-long in omega arith) zeros-clean first-clause words-written
 
 -- ---- the clause laid on top
 

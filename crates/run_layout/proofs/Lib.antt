@@ -10,3 +10,4 @@ pub mod Step
 pub mod RunLayoutSymbols
 pub mod RunLayoutWitness
 pub mod Halves
+pub mod RoomsLaws

@@ -16,6 +16,7 @@ use Rattle.machine.specs.Machine.{Pending, Alternative, path, pending, is_for, f
 use Rattle.machine.specs.Low.{Low}
 use Rattle.machine.proofs.Tests.{some-none, both, name-eq}
 use Rattle.run_layout.specs.Regions.{store_words, frames, alternatives, most_alternatives, state_words, frame_of, alternative_of, literal_size, body_end_kind, split_kind, jump_kind, next_literal, frame_size, alternative_size, literal_from}
+use Rattle.run_layout.specs.Rooms.{Clean}
 use Rattle.run_layout.specs.Nodes.{Symbol, TermLoaded}
 use Rattle.run_layout.specs.State.{bindings, Store, WithinCopies, SameBindings, BindingsKept}
 use Rattle.run_layout.specs.Program.{body_at, record_kind, record_place, other_at, PlainLoaded, BodyLoaded, Program}
@@ -968,15 +969,15 @@ pub goal-left : (sh : Sheet) (g : Goal) (code state : List ℕ) → left_from sh
 unfolding left_from left_behind
 goal-left sh g code state = ap (λ (y : Body). pending 0 y []) (goal-rest sh g code state)
 
-pub started : (ss : List Symbol) (sh : Sheet) (g : Goal) (nodes code state after : List ℕ) (x : ℕ) → Program ss sh g nodes code → state_words ≤ length state → ((i : ℕ) → get_or state i 0 ≡ 0)
+pub started : (ss : List Symbol) (sh : Sheet) (g : Goal) (nodes code state after : List ℕ) (x : ℕ) → Program ss sh g nodes code → state_words ≤ length state → Clean state
     → ((a : Atom) → Calls g.body a → NextFor sh a x) → Written 0 0 (body_at code 0) x 0 0 state after
     → Means ss sh g nodes code after 1 0 (record { literals = pending 0 g.body []; bindings = []; next = x; calls = [] } ∷ [])
 unfolding pile_of bindings calls_up_to
-started ss sh g nodes code state after x program long zeros next w =
+started ss sh g nodes code state after x program long clean next w =
     let empty : Piled ss sh g nodes code state 0 0 =
     record {
       program = program;
-      store = no-bindings ss nodes state (omega arith) program.small (λ y q. zeros y);
+      store = no-bindings ss nodes state (omega arith) program.small clean.zero;
       long = long;
       each = λ j q. absurd (let z : j < 0 = q in omega arith);
       longer = λ i j q r. absurd (let z : j < 0 = r in omega arith);

@@ -14,6 +14,7 @@ use Rattle.syntax.specs.Quote.{bytes}
 use Rattle.syntax.specs.Terms.{variable, compound, nil, cons, same_bytes, truth, done, also, literals_of, Clause, Sheet, Goal}
 use Rattle.machine.specs.Substitution.{resolve}
 use Rattle.run_layout.specs.Regions.{bodies, store_words, state_words, alternative_of, alternative_size}
+use Rattle.run_layout.specs.Rooms.{Clean}
 use Rattle.run_layout.specs.Nodes.{Symbol, is_symbol, symbol_of, is_listed, name_of_symbol, loaded_words, is_loadable, brackets_of, Node, decoded, term_at}
 use Rattle.run_layout.specs.State.{word_of, bindings, Store, bound_words}
 use Rattle.machine.specs.Machine.{pending, nth_clause, clause_at}
@@ -127,6 +128,9 @@ zeros-words i = go (ltb i state_words) refl
     go true e = get_or-replicate {A = ℕ} state_words i 0 0 (ltb-true i state_words e)
     go false e = get_or-eq_default {A = ℕ} zeros 0 {n = i} (let l : length zeros ≡ state_words = zeros-long in let q : state_words ≤ i = ltb-false i state_words e in omega arith)
 
+pub zeros-clean : Clean zeros
+zeros-clean = let l : length zeros ≡ state_words = zeros-long in record { long = omega arith; zero = λ y q. zeros-words y }
+
 -- the words of the goal alone
 unfoldable pub words : List ℕ
 words = set (set (set (set (set (set zeros (alternative_of 0) 0) (alternative_of 0 + 1) (body_at code 0)) (alternative_of 0 + 2) 0) (alternative_of 0 + 3) 0) (alternative_of 0 + 4) 0) (alternative_of 0 + 5) 0
@@ -135,7 +139,7 @@ pub pile : Means [] sheet goal [] code words 1 0 (record { literals = pending 0 
 unfolding words
 pile =
     let l : length zeros ≡ state_words = zeros-long in
-    started [] sheet goal [] code zeros words 0 program (omega arith) zeros-words (λ a h. tt) (written zeros 0 0 (body_at code 0) 0 0 0 0 (let q : alternative_of 0 + alternative_size ≤ length zeros = omega arith in q))
+    started [] sheet goal [] code zeros words 0 program (omega arith) zeros-clean (λ a h. tt) (written zeros 0 0 (body_at code 0) 0 0 0 0 (let q : alternative_of 0 + alternative_size ≤ length zeros = omega arith in q))
 
 pub piled : Piled [] sheet goal [] code words 1 0
 piled = pile.piled

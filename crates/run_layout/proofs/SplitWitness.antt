@@ -12,7 +12,7 @@ use Rattle.run_layout.specs.Regions.{bodies, state_words, alternative_of, altern
 use Rattle.run_layout.specs.Program.{body_at, record_kind, BodyLoaded, Program}
 use Rattle.run_layout.specs.Pile.{literal_at}
 use Rattle.run_layout.proofs.Pile.{Written, Means, started, written}
-use Rattle.run_layout.proofs.RunLayoutWitness.{sheet, no-clause, few-clauses, none-short, zeros, zeros-long, zeros-words}
+use Rattle.run_layout.proofs.RunLayoutWitness.{sheet, no-clause, few-clauses, none-short, zeros, zeros-long, zeros-clean}
 
 unfoldable pub goal : Goal
 goal = record { body = also (either (also truth done) (also truth done)) done; names = [] }
@@ -70,7 +70,7 @@ unfolding words
 words-written = let l : length zeros ≡ state_words = zeros-long in written zeros 0 0 (body_at code 0) 0 0 0 0 (let q : alternative_of 0 + alternative_size ≤ length zeros = omega arith in q)
 
 pub pile : Means [] sheet goal [] code words 1 0 (record { literals = pending 0 goal.body []; bindings = []; next = 0; calls = [] } ∷ [])
-pile = started [] sheet goal [] code zeros words 0 program (let l : length zeros ≡ state_words = zeros-long in omega arith) zeros-words (λ a h. tt) words-written
+pile = started [] sheet goal [] code zeros words 0 program (let l : length zeros ≡ state_words = zeros-long in omega arith) zeros-clean (λ a h. tt) words-written
 
 first-split : record_kind code (body_at code 0) ≡ split_kind
 unfolding code

@@ -12,6 +12,7 @@ use Rattle.syntax.specs.Words.{first_name}
 use Rattle.machine.specs.Substitution.{Variable, same_variable, RTerm, RTerms, var, app, rnil, rcons, occurs, occurs_in, replace, replace_all, Binding, resolve}
 use Rattle.machine.proofs.Tests.{variable-eq, variable-refl, or_left, or_right}
 use Rattle.run_layout.specs.Regions.{copies, copy_cells, places, cells, trail, store_words}
+use Rattle.run_layout.specs.Rooms.{Clean}
 use Rattle.run_layout.specs.Nodes.{Symbol, Node, term_at}
 use Rattle.run_layout.specs.State.{cell_of, variable_of, word_of, node_of, copy_of, cell_at, trail_at, value_of, bindings, TrailEntry, ClosesCycle, Acyclic, RawStore, Store, WithinCopies, SameBindings, BindingsKept, bound_words}
 use Rattle.run_layout.proofs.Pigeonhole.{pigeonhole}
@@ -446,3 +447,11 @@ no-entries ss nodes state l h z =
 
 pub no-bindings : (ss : List Symbol) (nodes state : List ℕ) → store_words ≤ length state → length nodes ≤ places → ((x : ℕ) → x < cells → cell_at state x ≡ 0) → Store ss nodes state 0
 no-bindings ss nodes state l h z = record { raw = no-entries ss nodes state l h z; acyclic = λ i q. absurd (let k : i < 0 = q in omega arith) }
+
+-- and where the trail has no entry, no cell is bound
+pub none-bound : (ss : List Symbol) (nodes state : List ℕ) → RawStore ss nodes state 0 → Clean state
+none-bound ss nodes state r = record { long = r.long; zero = λ x l. go x l (eqb (cell_at state x) 0) refl }
+  where
+    go : (x : ℕ) → x < cells → (b : Bool) → eqb (cell_at state x) 0 ≡ b → cell_at state x ≡ 0
+    go x l true e = eqb-true (cell_at state x) 0 e
+    go x l false e = absurd (let q : (i : ℕ) × (i < 0) × (trail_at state i ≡ x) = r.only x l (eqb-false (cell_at state x) 0 e) in omega (arith, q.1))

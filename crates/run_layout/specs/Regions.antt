@@ -145,21 +145,18 @@ big_pairs = 1024
 abbrev pub pairs : ℕ
 pairs = 2 * cells + big_pairs
 
--- Short cuts through chains of variables, and how many there are. Their slots are the higher halves of the memo's.
+-- Short cuts through chains of variables, room for one from each cell, and how many there are. Their slots are the higher halves of the memo's.
 abbrev pub cut_list : ℕ
 cut_list = stack + pairs * pair_size
 
 abbrev pub cut_count : ℕ
-cut_count = 2048
-
-abbrev pub cut_size : ℕ
-cut_size = 2
+cut_count = cells
 
 abbrev pub cut_of : ℕ → ℕ
-cut_of j = cut_list + j * cut_size
+cut_of j = cut_list + j
 
 abbrev pub cuts_word : ℕ
-cuts_word = cut_list + cut_count * cut_size
+cuts_word = cut_list + cut_count
 
 -- The memo: the number of classes and the number of rows, slots, the nodes of the rows, classes, weights, rows.
 abbrev pub memo : ℕ
@@ -240,11 +237,11 @@ abbrev pub short_text : ℕ
 short_text = 131072
 
 abbrev pub narrow_rows : ℕ
-narrow_rows = 304
+narrow_rows = 208
 
 abbrev pub narrow_words : ℕ
 narrow_words = rows + narrow_rows * row_words
 
--- Under any sheet there is room behind the pending cells for the brackets of any answer, and that is room for more rows.
+-- Under any sheet there is room for as many rows as there are keys. That is room behind the pending cells for the brackets of any answer.
 abbrev pub wide_words : ℕ
-wide_words = stack + deepest * open_size
+wide_words = rows + key_count * row_words

@@ -109,14 +109,11 @@ pub const PAIRS: usize = 2 * CELLS + BIG_PAIRS;
 /// Where the short cuts through chains of variables begin.
 pub const CUT_LIST: usize = STACK + PAIRS * PAIR_SIZE;
 
-/// The most short cuts.
-pub const CUT_COUNT: usize = 2048;
-
-/// The words of a short cut.
-pub const CUT_SIZE: usize = 2;
+/// The most short cuts: one from each cell.
+pub const CUT_COUNT: usize = CELLS;
 
 /// The word with the number of short cuts.
-pub const CUTS_WORD: usize = CUT_LIST + CUT_COUNT * CUT_SIZE;
+pub const CUTS_WORD: usize = CUT_LIST + CUT_COUNT;
 
 /// The word with the number of classes of equal terms. The memo of unification begins with it.
 pub const MEMO: usize = CUTS_WORD + 1;
@@ -179,13 +176,13 @@ pub const SHORT_SHEET: usize = 2048;
 pub const SHORT_TEXT: usize = 131072;
 
 /// The rows of the memo that a run has under a short sheet with a short text.
-pub const NARROW_ROWS: usize = 304;
+pub const NARROW_ROWS: usize = 208;
 
 /// The scratch words of a run under a short sheet with a short text, and of a test for at most one answer.
 pub const NARROW_WORDS: usize = ROWS + NARROW_ROWS * ROW_WORDS;
 
-/// The scratch words of any other run: room for the open brackets of every answer.
-pub const WIDE_WORDS: usize = STACK + DEEPEST * OPEN_SIZE;
+/// The scratch words of any other run: room for as many rows as there are keys, and with it for the open brackets of every answer.
+pub const WIDE_WORDS: usize = ROWS + KEY_COUNT * ROW_WORDS;
 
 // The texts that a name can stand in.
 const TEXTS: usize = 2;

@@ -8,7 +8,7 @@ use Rattle.std.proofs.Common.{Option, Some, None}
 use Rattle.syntax.specs.Words.{first_name}
 use Rattle.machine.specs.Substitution.{Variable, same_variable, RTerm, RTerms, var, app, rnil, rcons, occurs, occurs_in, Binding, resolve}
 use Rattle.machine.proofs.Tests.{either, or_left, or_right, variable-eq, variable-refl}
-use Rattle.run_layout.specs.Regions.{copies, places, cells, trail, store_words, pending, slots, slot_count, path_of, rows, loaded_node}
+use Rattle.run_layout.specs.Regions.{copies, places, cells, trail, store_words, pending, cuts_word, memo, slots, slot_count, path_of, rows, loaded_node}
 use Rattle.run_layout.specs.Nodes.{Symbol, is_symbol, symbol_of, is_listed, name_of_symbol, loaded_words, is_loadable, brackets_of, Node, Row, term_at, terms_at, followed}
 use Rattle.run_layout.specs.State.{at_of, cell_of, variable_of, word_of, node_of, copy_of, cell_at, trail_at, value_of, bindings, TrailEntry, ClosesCycle, Acyclic, RawStore, bound_words}
 use Rattle.run_layout.proofs.Nodes.{node-inside, node_end, node-size, variable-at, variable-size, compound-at, row_one, row-one-is, row-none, row_first, row-rest, row-order, row_cons, row_open, row_opened}
@@ -16,12 +16,15 @@ use Rattle.run_layout.proofs.State.{variable-cell, cell-eq, cell-small, copy-sma
 use Rattle.syntax.specs.Terms.{compound, nil, same_bytes}
 use Rattle.run_layout.specs.declared.terms.At.{At}
 use Rattle.bindings.specs.Cells.{StoredTerm, Undone, Stored}
-use Rattle.bindings.specs.Plain.{Clean, Constant}
+use Rattle.run_layout.specs.Rooms.{Clean}
+use Rattle.bindings.specs.Plain.{Constant}
 use Rattle.bindings.proofs.Deref.{BoundCell, bound-cell-is}
 use Rattle.bindings.proofs.Apart.{closed-under, constant-bare}
 use Rattle.unify.specs.Rows.{nodes_of, rows_size}
 use Rattle.unify.specs.declared.cycles.Progress.{Progress}
-use Rattle.unify.specs.Cycles.{LeafCell, Leaf, Shallow, mark_symbols, mark_table, done_mark, pending_at, path_cell, path_place, term_end, CellSettled, Settled, Ranked, DoneCell, OpenCell, cell_size, SearchState, Searching, StayMarked, LeadsOn, Lookable, LookedTo, Found, FirstPlace, Enterable, EnteredCell, search_left, SearchedOn, SearchTurned, SearchStopped, from_start, SearchEnded, Testable, AllSearched, Tested}
+use Rattle.unify.specs.declared.cycles.CycleSearch.{CycleSearch}
+use Rattle.unify.specs.declared.cycles.CycleSearch.TheVariants.{Cycle, NoCycle, GivenUp}
+use Rattle.unify.specs.Cycles.{LeafCell, Leaf, Shallow, mark_symbols, mark_table, done_mark, pending_at, path_cell, path_place, term_end, CellSettled, Settled, Ranked, DoneCell, OpenCell, cell_size, SearchState, Searching, StayMarked, LeadsOn, Lookable, LookedTo, Found, FirstPlace, Enterable, EnteredCell, search_left, SearchedOn, SearchTurned, SearchStopped, from_start, SearchEnded, Testable, AllSearched, CycleTested, Tested, Looked}
 use Rattle.unify.proofs.Rowwise.{size-cons, size-app}
 
 -- ---- marks
@@ -525,8 +528,8 @@ module _ {nodes state scratch : List ℕ} {p : Progress} {y : ℕ} (g : Enterabl
           (λ q. subst⁻¹ (λ (x : ℕ). cell_size g.given.ss nodes state g.given.n (path_cell entered-words p.height) < cell_size g.given.ss nodes state g.given.n x) (old-cell j q)
           (subst⁻¹ (λ (x : ℕ). cell_size g.given.ss nodes state g.given.n x < cell_size g.given.ss nodes state g.given.n (path_cell scratch j)) new-cell (g.less f j q))) l
 
-      entered-search : SearchState g.given.ss nodes state g.given.n g.given.before entered-words (record { height = p.height + 1; entered = p.entered + 1 })
-      entered-search =
+      entered-search : (left : Option ℕ) → SearchState g.given.ss nodes state g.given.n g.given.before entered-words (record { height = p.height + 1; entered = p.entered + 1; left = left })
+      entered-search left =
           record {
             marks = marks-entered;
             low = (let h : p.height ≤ p.entered = s.low in omega arith);
@@ -550,11 +553,11 @@ module _ {nodes state scratch : List ℕ} {p : Progress} {y : ℕ} (g : Enterabl
       entered-more : StayMarked scratch entered-words
       entered-more z l a e = a (sym (mark-other z l (apart-from z a)) ∙ e)
 
-      pub enter-done : {after : List ℕ} → after ≡ entered-words → {r : Progress} → r ≡ record { height = p.height + 1; entered = p.entered + 1 } → EnteredCell g after r
-      enter-done e {r} f =
+      pub enter-done : {after : List ℕ} → after ≡ entered-words → {left : Option ℕ} → (p.left ≡ None → left ≡ None) → {r : Progress} → r ≡ record { height = p.height + 1; entered = p.entered + 1; left = left } → EnteredCell g after r
+      enter-done e {left} o {r} f =
           subst⁻¹ (λ (x : List ℕ). EnteredCell g x r) e
           (subst⁻¹ (λ (x : Progress). EnteredCell g entered-words x) f
-          (record { search = entered-search; height = refl; entered = refl; more = entered-more; here = λ z. (let a : get_or entered-words y 0 ≡ 1 = mark-here in let q : get_or entered-words y 0 ≡ 0 = z in omega arith) }))
+          (record { search = entered-search left; height = refl; entered = refl; limit = o; more = entered-more; here = λ z. (let a : get_or entered-words y 0 ≡ 1 = mark-here in let q : get_or entered-words y 0 ≡ 0 = z in omega arith) }))
 
 -- the words of a cell that is entered, as they are put one after the other
 pub entered-on : {marked scratch one two : List ℕ} (i j x y : ℕ) → scratch ≡ marked → one ≡ set scratch i x → two ≡ set one j y → two ≡ set (set marked i x) j y
@@ -740,7 +743,7 @@ module _ {nodes state scratch : List ℕ} {p : Progress} (g : Searching nodes st
                   let o : (j : ℕ) × (j < p.entered) × (trail_at scratch j ≡ z) = t.marks.only z l (λ q. n (elsewhere z (eqb-false z x r) ∙ q)) in
                   (o.0, o.1, trail-same o.0 ∙ o.2)
 
-          finished-search : SearchState g.ss nodes state g.n g.before finished (record { height = p.height - 1; entered = p.entered })
+          finished-search : SearchState g.ss nodes state g.n g.before finished (record { height = p.height - 1; entered = p.entered; left = p.left })
           finished-search =
               record {
                 marks = finished-marks;
@@ -785,13 +788,14 @@ module _ {nodes state scratch : List ℕ} {p : Progress} (g : Searching nodes st
                   let below : o.0 < p.height - 1 = (let k : o.0 < p.height = o.1.0 in let m : o.0 ≡ p.height - 1 → ⊥ = (λ q. n (sym o.1.1 ∙ (ap (path_cell scratch) q ∙ sym ex))) in omega (arith, m)) in
                   (o.0, (below, beyond (path_of o.0) (omega arith) ∙ o.1.1))
 
-          pub turn-finished : {slot : ℕ} → slots ≤ slot → slot < slots + slot_count → {mid after : List ℕ} → mid ≡ finished → after ≡ set mid slot x → SearchedOn g after (record { height = p.height - 1; entered = p.entered })
+          pub turn-finished : {slot : ℕ} → slots ≤ slot → slot < slots + slot_count → {mid after : List ℕ} → mid ≡ finished → after ≡ set mid slot x → SearchedOn g after (record { height = p.height - 1; entered = p.entered; left = p.left })
           turn-finished {slot} lo hi {mid} {after} em ea =
-              subst⁻¹ (λ (u : List ℕ). SearchedOn g u (record { height = p.height - 1; entered = p.entered })) (ea ∙ ap (λ (u : List ℕ). set u slot x) em)
+              subst⁻¹ (λ (u : List ℕ). SearchedOn g u (record { height = p.height - 1; entered = p.entered; left = p.left })) (ea ∙ ap (λ (u : List ℕ). set u slot x) em)
               (record {
                 search = search-beside finished-search (set finished slot x) (length-set finished slot x) (λ j h. get_or-set_other finished slot j x 0 (λ q. omega arith)) (λ j l. get_or-set_other finished slot (path_of j) x 0 (λ q. omega arith))
                     (λ j l. open_at g.ss nodes state finished refl (get_or-set_other finished slot (path_of j + 1) x 0 (λ q. omega arith)) (finished-search.path j l));
                 more = λ z l a q. more-at z l a (sym (get_or-set_other finished slot z x 0 (λ r. omega arith)) ∙ q) (eqb z x) refl;
+                limit = λ o. o;
                 less = (let h : p.height ≤ p.entered = t.low in omega arith);
               })
             where
@@ -907,6 +911,7 @@ module _ {nodes state scratch : List ℕ} {p : Progress} (g : Searching nodes st
                 record {
                   search = d.search;
                   more = λ z l a. d.more z l (λ b. a (sym (moved-low z (omega arith)) ∙ b));
+                  limit = d.limit;
                   less = (let a : r.height ≡ p.height + 1 = d.height in let b : r.entered ≡ p.entered + 1 = d.entered in let c : p.entered < cells = room mark_symbols mark_table scratch p.entered y t.marks next-cell unmarked in omega arith);
                 }
 
@@ -934,10 +939,11 @@ at-cell w v ea ey = ey ∙ ap (λ (k : ℕ). cell_of k v) (at-copy w ea)
 pub record SearchLoop {nodes state before : List ℕ} {p : Progress} (g : Searching nodes state before p) (after : List ℕ) (q : Progress) : Type 0 where
   pub search : SearchState g.ss nodes state g.n g.before after q
   pub more : StayMarked before after
+  pub limit : p.left ≡ None → q.left ≡ None
 
 module _ {nodes state before : List ℕ} {p : Progress} (g : Searching nodes state before p) where
   pub loop-begin : SearchLoop g before p
-  loop-begin = record { search = g.search; more = λ y l a. a }
+  loop-begin = record { search = g.search; more = λ y l a. a; limit = λ o. o }
 
   module _ {after : List ℕ} {q : Progress} (s : SearchLoop g after q) where
     pub loop-given : Searching nodes state after q
@@ -957,7 +963,7 @@ module _ {nodes state before : List ℕ} {p : Progress} (g : Searching nodes sta
 
       pub loop-on : {r : Progress} → o ≡ Some r → SearchLoop g later r
       unfolding loop-given
-      loop-on {r} e = let x : SearchedOn loop-given later r = subst (SearchTurned loop-given later) e loop-turned in record { search = x.search; more = λ y l a. x.more y l (s.more y l a) }
+      loop-on {r} e = let x : SearchedOn loop-given later r = subst (SearchTurned loop-given later) e loop-turned in record { search = x.search; more = λ y l a. x.more y l (s.more y l a); limit = λ z. x.limit (s.limit z) }
 
       pub loop-falls : {r : Progress} → o ≡ Some r → search_left r < search_left q
       loop-falls {r} e = let x : SearchedOn loop-given later r = subst (SearchTurned loop-given later) e loop-turned in x.less
@@ -966,21 +972,25 @@ module _ {nodes state before : List ℕ} {p : Progress} (g : Searching nodes sta
       unfolding loop-given
       loop-cycle e =
           let x : (later ≡ after) × (Acyclic g.ss nodes state g.n → ⊥) = subst (SearchTurned loop-given later) e loop-turned in
-          subst⁻¹ (λ (u : List ℕ). SearchStopped g u q) x.0 (record { search = s.search; more = s.more; cyclic = λ z. x.1 })
+          subst⁻¹ (λ (u : List ℕ). SearchStopped g u q) x.0 (record { search = s.search; more = s.more; limit = s.limit; cyclic = λ z w. x.1 })
 
     pub loop-end : q.height ≤ 0 → SearchStopped g after q
-    loop-end l = record { search = s.search; more = s.more; cyclic = λ z. absurd (let o : 1 ≤ q.height = z in omega arith) }
+    loop-end l = record { search = s.search; more = s.more; limit = s.limit; cyclic = λ z w. absurd (let o : 1 ≤ q.height = z in omega arith) }
 
-module _ {nodes state before : List ℕ} {m x : ℕ} (g : Searching nodes state before (from_start m)) where
+    -- the limit is spent
+    pub loop-spent : q.left ≡ Some 0 → SearchStopped g after q
+    loop-spent e = record { search = s.search; more = s.more; limit = s.limit; cyclic = λ z w. absurd (w e) }
+
+module _ {nodes state before : List ℕ} {m x : ℕ} {left : Option ℕ} (g : Searching nodes state before (from_start m left)) where
   -- the cell is marked already
-  pub search-none : (get_or before x 0 ≡ 0 → ⊥) → SearchEnded g before x (from_start m)
-  search-none z = record { search = g.search; more = λ y l a. a; here = z; cyclic = λ q. absurd (let o : 1 ≤ 0 = q in omega arith) }
+  pub search-none : (get_or before x 0 ≡ 0 → ⊥) → SearchEnded g before x (from_start m left)
+  search-none z = record { search = g.search; more = λ y l a. a; here = z; limit = λ o. o; cyclic = λ q w. absurd (let o : 1 ≤ 0 = q in omega arith) }
 
   module _ (l : x < cells) (b : cell_at state x ≡ 0 → ⊥) (z : get_or before x 0 ≡ 0) where
-    pub search-enterable : Enterable nodes state before (from_start m) x
+    pub search-enterable : Enterable nodes state before (from_start m left) x
     search-enterable = record { given = g; cell = l; bound = b; unmarked = z; less = λ f k q. absurd (let o : k < 0 = q in omega arith) }
 
-    module _ {mid : List ℕ} {p : Progress} (k : (h : Enterable nodes state before (from_start m) x) → EnteredCell h mid p) where
+    module _ {mid : List ℕ} {p : Progress} (k : (h : Enterable nodes state before (from_start m left) x) → EnteredCell h mid p) where
       entered-cell : EnteredCell search-enterable mid p
       entered-cell = k search-enterable
 
@@ -998,16 +1008,17 @@ module _ {nodes state before : List ℕ} {m x : ℕ} (g : Searching nodes state 
 
       pub search-ended : {after : List ℕ} {r : Progress} → ((h : Searching nodes state mid p) → SearchStopped h after r) → SearchEnded g after x r
       unfolding search-given search-enterable
-      search-ended f = let s = f search-given in record { search = s.search; more = λ y o a. s.more y o (entered-cell.more y o a); here = s.more x l entered-cell.here; cyclic = s.cyclic }
+      search-ended f = let s = f search-given in record { search = s.search; more = λ y o a. s.more y o (entered-cell.more y o a); here = s.more x l entered-cell.here; limit = λ o. s.limit (entered-cell.limit o); cyclic = s.cyclic }
 
 -- ---- searches from the pending cells
 
-pub record PendingLoop {nodes state before : List ℕ} {pending : ℕ} (g : Testable nodes state before pending) (after : List ℕ) (m k : ℕ) : Type 0 where
-  pub search : SearchState g.ss nodes state g.n before after (from_start m)
+pub record PendingLoop {nodes state before : List ℕ} {pending : ℕ} (g : Testable nodes state before pending) (limit : Option ℕ) (after : List ℕ) (m : ℕ) (left : Option ℕ) (k : ℕ) : Type 0 where
+  pub search : SearchState g.ss nodes state g.n before after (from_start m left)
+  pub limited : limit ≡ None → left ≡ None
   pub marked : (j : ℕ) → j < k → get_or after (pending_at before j) 0 ≡ 0 → ⊥
 
-module _ {nodes state before : List ℕ} {count : ℕ} (g : Testable nodes state before count) where
-  pub pending-begin : PendingLoop g before 0 0
+module _ {nodes state before : List ℕ} {count : ℕ} {limit : Option ℕ} (g : Testable nodes state before count) where
+  pub pending-begin : PendingLoop g limit before 0 limit 0
   pending-begin =
       record {
         search = record {
@@ -1023,11 +1034,12 @@ module _ {nodes state before : List ℕ} {count : ℕ} (g : Testable nodes state
           open_cells = λ y l a c. absurd (a (g.clean.zero y l));
           falls = λ f j k l h. absurd (let z : k < 0 = h in omega arith);
         };
+        limited = λ o. o;
         marked = λ j l. absurd (let z : j < 0 = l in omega arith);
       }
 
-  module _ {after : List ℕ} {m k : ℕ} (s : PendingLoop g after m k) where
-    pub pending-given : Searching nodes state after (from_start m)
+  module _ {after : List ℕ} {m k : ℕ} {left : Option ℕ} (s : PendingLoop g limit after m left k) where
+    pub pending-given : Searching nodes state after (from_start m left)
     pending-given = record { ss = g.ss; n = g.n; before = before; store = g.store; roomy = (let a : rows ≤ length before = g.roomy in let e1 : length after ≡ length before = s.search.long in omega arith); search = s.search }
 
     pub pending-inside : k < count → pending + k < length after
@@ -1043,19 +1055,20 @@ module _ {nodes state before : List ℕ} {count : ℕ} (g : Testable nodes state
       pub pending-bound : cell_at state x ≡ 0 → ⊥
       pending-bound z = g.bound k l (ap (cell_at state) (sym x-is) ∙ z)
 
-      module _ {later : List ℕ} {p : Progress} (f : (h : Searching nodes state after (from_start m)) → SearchEnded h later x p) where
+      module _ {later : List ℕ} {p : Progress} (f : (h : Searching nodes state after (from_start m left)) → SearchEnded h later x p) where
         ended : SearchEnded pending-given later x p
         ended = f pending-given
 
-        pub pending-found : 0 < p.height → AllSearched g later p
+        pub pending-found : 0 < p.height → AllSearched g limit later p
         unfolding pending-given
-        pending-found q = record { search = ended.search; cyclic = ended.cyclic; marked = λ z. absurd (omega (arith, z)) }
+        pending-found q = record { search = ended.search; limited = λ o. ended.limit (s.limited o); cyclic = ended.cyclic; marked = λ z. absurd (omega (arith, z)) }
 
-        pub pending-next : p.height ≤ 0 → PendingLoop g later p.entered (k + 1)
+        pub pending-next : p.height ≤ 0 → PendingLoop g limit later p.entered p.left (k + 1)
         unfolding pending-given
         pending-next q =
             record {
-              search = subst (λ (h : ℕ). SearchState g.ss nodes state g.n before later (record { height = h; entered = p.entered })) (let z : p.height ≡ 0 = omega arith in z) ended.search;
+              search = subst (λ (h : ℕ). SearchState g.ss nodes state g.n before later (record { height = h; entered = p.entered; left = p.left })) (let z : p.height ≡ 0 = omega arith in z) ended.search;
+              limited = λ o. ended.limit (s.limited o);
               marked = λ j o. at j o (eqb j k) refl;
             }
           where
@@ -1065,13 +1078,13 @@ module _ {nodes state before : List ℕ} {count : ℕ} (g : Testable nodes state
                 let i : j < k = (let n : j ≡ k → ⊥ = eqb-false j k r in omega (arith, n)) in
                 ended.more (pending_at before j) (g.cell j (omega arith)) (s.marked j i) z
 
-    pub pending-end : count ≤ k → AllSearched g after (from_start m)
-    pending-end q = record { search = s.search; cyclic = λ z. absurd (let o : 1 ≤ 0 = z in omega arith); marked = λ z j o. s.marked j (omega arith) }
+    pub pending-end : count ≤ k → AllSearched g limit after (from_start m left)
+    pending-end q = record { search = s.search; limited = s.limited; cyclic = λ z w. absurd (let o : 1 ≤ 0 = z in omega arith); marked = λ z j o. s.marked j (omega arith) }
 
 -- ---- the test
 
-module _ {nodes state before : List ℕ} {count : ℕ} (g : Testable nodes state before count) {mid : List ℕ} {p : Progress} (k : (h : Testable nodes state before count) → AllSearched h mid p) where
-  whole : AllSearched g mid p
+module _ {nodes state before : List ℕ} {count : ℕ} {limit : Option ℕ} (g : Testable nodes state before count) {mid : List ℕ} {p : Progress} (k : (h : Testable nodes state before count) → AllSearched h limit mid p) where
+  whole : AllSearched g limit mid p
   whole = k g
 
   pub test-stored : Stored mid p.entered
@@ -1125,16 +1138,81 @@ module _ {nodes state before : List ℕ} {count : ℕ} (g : Testable nodes state
         go y l true e = eqb-true (get_or after y 0) 0 e
         go y l false e = absurd (let o : (i : ℕ) × (i < 0) × (trail_at after i ≡ y) = unmarked.only y l (eqb-false (get_or after y 0) 0 e) in let z : o.0 < 0 = o.1 in omega arith)
 
-    pub test-done : {r : Bool} → r ≡ ltb 0 p.height → Tested g after r
-    test-done e =
+    -- what each way out of the test says
+    tested-by : {r : CycleSearch} → (r ≡ Cycle → Acyclic g.ss nodes state g.n → ⊥) → (r ≡ NoCycle → p.height ≡ 0) → (r ≡ GivenUp → p.left ≡ Some 0) → CycleTested g limit after r
+    tested-by c f u1 =
         record {
           long = u.keeps.long ∙ whole.search.long;
           clean = test-clean;
           kept = λ j l h. u.keeps.others j l ∙ whole.search.kept j l h;
-          cyclic = λ t. whole.cyclic (ltb-true 0 p.height (sym e ∙ t));
-          free = λ t. test-free (let z : p.height ≤ 0 = ltb-false 0 p.height (sym e ∙ t) in omega arith);
+          cyclic = c;
+          free = λ t. test-free (f t);
+          given_up = λ t o. some-none (sym (u1 t) ∙ whole.limited o);
         }
+      where
+        some-none : {n : ℕ} → Some n ≡ None → ⊥
+        some-none e = cc
+
+    pub test-clear : p.height ≡ 0 → CycleTested g limit after NoCycle
+    test-clear e = tested-by (λ t. absurd (cc)) (λ t. e) (λ t. absurd (cc))
+
+    pub test-spent : p.left ≡ Some 0 → CycleTested g limit after GivenUp
+    test-spent e = tested-by (λ t. absurd (cc)) (λ t. absurd (cc)) (λ t. e)
+
+    pub test-cycle : (p.height ≡ 0 → ⊥) → (p.left ≡ Some 0 → ⊥) → CycleTested g limit after Cycle
+    test-cycle e o = tested-by (λ t. whole.cyclic (omega (arith, e)) o) (λ t. absurd (cc)) (λ t. absurd (cc))
 
 -- nothing is pending
 pub test-none : {nodes state scratch : List ℕ} {count : ℕ} (g : Testable nodes state scratch count) → count ≡ 0 → Tested g scratch false
 test-none g z = record { long = refl; clean = g.clean; kept = λ j l h. refl; cyclic = λ t. absurd (subst T (sym t) tt); free = λ t j l. absurd (omega (arith, z, l)) }
+
+-- a search without a limit
+module _ {nodes state scratch after : List ℕ} {count : ℕ} {g : Testable nodes state scratch count} {r : CycleSearch} (k : CycleTested g None after r) where
+  pub test-false : r ≡ NoCycle → Tested g after false
+  test-false e = record { long = k.long; clean = k.clean; kept = k.kept; cyclic = λ t. absurd (subst T (sym t) tt); free = λ t. k.free e }
+
+  pub test-true : (r ≡ Cycle) ⊎ (r ≡ GivenUp) → Tested g after true
+  test-true (inl e) = record { long = k.long; clean = k.clean; kept = k.kept; cyclic = λ t. k.cyclic e; free = λ t. absurd (subst T t tt) }
+  test-true (inr e) = absurd (k.given_up e refl)
+
+-- a look between turns
+module _ {nodes state scratch next end : List ℕ} {count : ℕ} {limit : Option ℕ} {r : CycleSearch} (g : Testable nodes state scratch count) (f : (h : Testable nodes state scratch count) → CycleTested h limit next r) (q : end ≡ set (set next memo 0) cuts_word 0) where
+  look-tested : CycleTested g limit next r
+  look-tested = f g
+
+  look-is : (j : ℕ) → (j ≡ memo → ⊥) → (j ≡ cuts_word → ⊥) → get_or end j 0 ≡ get_or next j 0
+  look-is j a b = ap (λ (x : List ℕ). get_or x j 0) q ∙ (get_or-set_other (set next memo 0) cuts_word j 0 0 b ∙ get_or-set_other next memo j 0 0 a)
+
+  look-long : length end ≡ length scratch
+  look-long = ap length q ∙ (length-set (set next memo 0) cuts_word 0 ∙ (length-set next memo 0 ∙ look-tested.long))
+
+  looked-by : (o : Option ℕ) → (o ≡ None → Acyclic g.ss nodes state g.n → ⊥)
+      → ((c : ℕ) → o ≡ Some c → ((c ≡ 0) × ((j : ℕ) → j < count → (i : ℕ) → i < g.n → trail_at state i ≡ pending_at scratch j → ClosesCycle g.ss nodes state i → ⊥)) ⊎ (c ≡ count)) → Looked g end o
+  looked-by o c s =
+      record {
+        long = look-long;
+        clean = record { long = (let a : store_words ≤ length scratch = g.clean.long in let b : length end ≡ length scratch = look-long in omega arith); zero = λ y l. look-is y (λ z. omega arith) (λ z. omega arith) ∙ look-tested.clean.zero y l };
+        kept = λ j a b. look-is j (λ z. omega arith) (λ z. omega arith) ∙ look-tested.kept j a (omega arith);
+        no_classes = ap (λ (x : List ℕ). get_or x memo 0) q ∙ (get_or-set_other (set next memo 0) cuts_word memo 0 0 (λ z. omega arith) ∙ get_or-set_same next memo 0 0 (let a : rows ≤ length scratch = g.roomy in let e : length next ≡ length scratch = look-tested.long in omega arith));
+        no_cuts = ap (λ (x : List ℕ). get_or x cuts_word 0) q ∙ get_or-set_same (set next memo 0) cuts_word 0 0 (let a : rows ≤ length scratch = g.roomy in let e : length next ≡ length scratch = look-tested.long in let b : length (set next memo 0) ≡ length next = length-set next memo 0 in omega arith);
+        cyclic = c;
+        still = s;
+      }
+
+  pub look-cycle : r ≡ Cycle → Looked g end None
+  look-cycle e = looked-by None (λ t. look-tested.cyclic e) (λ c t. absurd (cc))
+
+  pub look-none : r ≡ NoCycle → Looked g end (Some 0)
+  look-none e = looked-by (Some 0) (λ t. absurd (cc)) (λ c t. inl (some-is c t, look-tested.free e))
+    where
+      some-is : (c : ℕ) → Some 0 ≡ Some c → c ≡ 0
+      some-is c t = cc
+
+  pub look-given : Looked g end (Some count)
+  look-given = looked-by (Some count) (λ t. absurd (cc)) (λ c t. inr (some-is c t))
+    where
+      some-is : (c : ℕ) → Some count ≡ Some c → c ≡ count
+      some-is c t = cc
+
+pub look-room : {nodes state scratch next : List ℕ} {count : ℕ} {limit : Option ℕ} {r : CycleSearch} (g : Testable nodes state scratch count) → ((h : Testable nodes state scratch count) → CycleTested h limit next r) → memo < length next
+look-room {scratch = scratch} {next = next} g f = let a : rows ≤ length scratch = g.roomy in let e : length next ≡ length scratch = (f g).long in omega arith

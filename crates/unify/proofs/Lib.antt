@@ -6,6 +6,7 @@ pub mod Shapes
 pub mod Safe
 pub mod Settle
 pub mod Turning
+pub mod Passing
 pub mod CycleLaws
 pub mod Solving
 pub mod Whole

@@ -10,7 +10,7 @@ use lib.Dec.{T, ltb, eqb}
 use lib.ListN.{length, get_or, set, length-set}
 use lib.Seq.{get_or-set_same, get_or-set_other}
 use borrow.Author.Tests.{ltb-true, ltb-false, eqb-true, eqb-false}
-use Rattle.std.proofs.Common.{Ok, Err}
+use Rattle.std.proofs.Common.{Ok, Err, Option as Maybe, Some, None}
 use Rattle.std.proofs.Math.Nat.{suc-mul}
 use Rattle.machine.specs.Substitution.{rnil, occurs, Binding, resolve}
 use Rattle.run_layout.specs.Regions.{copies, places, cells, trail, store_words, pending, pairs, cuts_word, memo, rows, loaded_node}
@@ -20,7 +20,8 @@ use Rattle.run_layout.proofs.Nodes.{node-inside, node_end}
 use Rattle.run_layout.proofs.State.{bind-raw, bind-keeps, bind-means, bind-within, bind-closing, bind-closed, bind-earlier, bind-acyclic, word_some, bound-entry, bound-cell, bound-cells, keeps-refl, keeps-trans, within-agrees, agrees, acyclic-agrees, room, few}
 use Rattle.run_layout.specs.declared.terms.At.{At}
 use Rattle.bindings.specs.Cells.{StoredTerm, Stored, Undone}
-use Rattle.bindings.specs.Plain.{Clean, Closed, Closing, Plain}
+use Rattle.run_layout.specs.Rooms.{Clean}
+use Rattle.bindings.specs.Plain.{Closed, Closing, Plain}
 use Rattle.bindings.specs.Memos.{Memo, classes_made}
 use Rattle.bindings.specs.Cuts.{cuts_made}
 use Rattle.bindings.specs.Scratch.{left_at, right_at, SameMarks}
@@ -30,7 +31,7 @@ use Rattle.unify.specs.Rows.{unify_rows}
 use Rattle.unify.specs.Stacks.{end_of, rows_of, StackSide, Stack, no_term, WholesEqual}
 use Rattle.unify.specs.Turns.{over, Turn, BindingDue, TurnGives, Turnable, Solvable, Solved, answered}
 use Rattle.unify.specs.Shapes.{SideRows, StackRows, most_left, mass, SafeTurnable, SafeBinding, TurnFalls}
-use Rattle.unify.specs.Cycles.{Shallow, pending_at, Testable, Tested}
+use Rattle.unify.specs.Cycles.{Shallow, pending_at, Testable, Tested, Looked}
 use Rattle.unify.specs.declared.solve.TurnStop.{TurnStop}
 use Rattle.unify.specs.declared.solve.TurnStop.TheVariants.{Clash, Bind}
 use Rattle.unify.proofs.Rules.{rows-done}
@@ -142,6 +143,7 @@ module _ {nodes before after scratch later : List ℕ} {n m h count : ℕ} (g : 
       let kept : BindingsKept n before end = keeps-trans n n before after end (omega arith) s.safe.keeps u.keeps in
       record {
         grows = omega arith;
+        undone = λ f. refl;
         store = record { raw = u.store ss nodes s.safe.store; acyclic = acyclic-agrees ss nodes before end n (agrees n before end kept) g.work.store.acyclic };
         within = within-agrees g.work.top n m after end s.safe.grows (agrees n after end u.keeps) s.safe.within;
         keeps = kept;
@@ -185,6 +187,7 @@ module _ {nodes before after scratch later : List ℕ} {n m h count : ℕ} (g : 
         let z : h ≡ 0 = omega arith in
         record {
           grows = s.safe.grows;
+          undone = λ f. cc;
           store = record { raw = s.safe.store; acyclic = acyclic e };
           within = s.safe.within;
           keeps = s.safe.keeps;
@@ -195,60 +198,63 @@ module _ {nodes before after scratch later : List ℕ} {n m h count : ℕ} (g : 
               ∙ (ap₂ (unify_rows (bindings ss nodes after m)) (no_rows ss nodes later).0 (no_rows ss nodes later).1 ∙ rows-done (bindings ss nodes after m)));
         }
 
-    pub solve-forget : memo < length next
-    solve-forget = let a : rows ≤ length later = solve-roomy in let e : length next ≡ length later = tested.long in omega arith
+  -- ---- a look
 
-    -- on, with nothing pending and no memo
-    module _ (e : r ≡ false) {end : List ℕ} (q : end ≡ set (set next memo 0) cuts_word 0) where
-      end-is : (j : ℕ) → (j ≡ memo → ⊥) → (j ≡ cuts_word → ⊥) → get_or end j 0 ≡ get_or next j 0
-      end-is j a b = ap (λ (x : List ℕ). get_or x j 0) q ∙ (get_or-set_other (set next memo 0) cuts_word j 0 0 b ∙ get_or-set_other next memo j 0 0 a)
+  module _ {end : List ℕ} {r : Maybe ℕ} (c : (v : Testable nodes after later count) → Looked v end r) where
+    looked : Looked solve-testable end r
+    looked = c solve-testable
 
-      end-long : length end ≡ length later
-      end-long = ap length q ∙ (length-set (set next memo 0) cuts_word 0 ∙ (length-set next memo 0 ∙ tested.long))
+    pub look-lost : r ≡ None → {undone : List ℕ} → Undone after undone n m → Solved g undone end (record { equal = false; trail = n })
+    unfolding solve-testable
+    look-lost e u = solved-none (s.lost (looked.cyclic e)) u looked.clean looked.long
 
-      between : (j : ℕ) → store_words ≤ j → j < cuts_word → get_or end j 0 ≡ get_or later j 0
-      between j a b = end-is j (λ z. omega arith) (λ z. omega arith) ∙ tested.kept j a (omega arith)
-
+    -- on, with no memo, and nothing pending or as much as before
+    module _ {left : ℕ} (e : r ≡ Some left) where
       left-same : (k : ℕ) → k < h → left_at end k ≡ left_at later k
-      left-same k l = left-kept later end (λ j a b. between j (omega arith) (omega arith)) k (let z : h ≤ pairs = s.safe.rows.low in omega arith)
+      left-same k l = left-kept later end (λ j a b. looked.kept j (omega arith) (omega arith)) k (let z : h ≤ pairs = s.safe.rows.low in omega arith)
 
       right-same : (k : ℕ) → k < h → right_at end k ≡ right_at later k
-      right-same k l = right_kept later end (λ j a b. between j (omega arith) (omega arith)) k (let z : h ≤ pairs = s.safe.rows.low in omega arith)
+      right-same k l = right_kept later end (λ j a b. looked.kept j (omega arith) (omega arith)) k (let z : h ≤ pairs = s.safe.rows.low in omega arith)
 
-      no-classes : classes_made end ≡ 0
-      no-classes = ap (λ (x : List ℕ). get_or x memo 0) q ∙ (get_or-set_other (set next memo 0) cuts_word memo 0 0 (λ z. omega arith) ∙ get_or-set_same next memo 0 0 solve-forget)
+      still-pending : (j : ℕ) → j < count → pending_at end j ≡ pending_at later j
+      still-pending j l = looked.kept (pending + j) (omega arith) (let a : m ≤ cells = solve-few in let b : count + n ≤ m = s.safe.low in omega arith)
 
-      no-cuts : cuts_made end ≡ 0
-      no-cuts = ap (λ (x : List ℕ). get_or x cuts_word 0) q ∙ get_or-set_same (set next memo 0) cuts_word 0 0 (let a : memo < length next = solve-forget in let b : length (set next memo 0) ≡ length next = length-set next memo 0 in omega arith)
-
-      pub solve-on : Solving g after end m h 0
-      solve-on =
+      on-with : (k : ℕ) → k ≤ count → ((i : ℕ) → i < m → (ClosesCycle ss nodes after i → ⊥) ⊎ ((j : ℕ) × ((j < k) × (trail_at after i ≡ pending_at end j)))) → Solving g after end m h k
+      on-with k few entries =
           record {
             safe = record {
               grows = s.safe.grows;
               store = s.safe.store;
               within = s.safe.within;
               keeps = s.safe.keeps;
-              clean = record { long = (let a : store_words ≤ length later = s.safe.clean.long in let b : length end ≡ length later = end-long in omega arith); zero = λ y l. end-is y (λ z. omega arith) (λ z. omega arith) ∙ tested.clean.zero y l };
-              long = end-long ∙ s.safe.long;
+              clean = looked.clean;
+              long = looked.long ∙ s.safe.long;
               rows = rows-agreed ss nodes g.work.top later end h left-same right-same s.safe.rows;
-              low = (let o : n ≤ m = s.safe.grows in omega arith);
-              cell = λ j l. absurd (let z : j < 0 = l in omega arith);
-              bound = λ j l. absurd (let z : j < 0 = l in omega arith);
-              entry = λ i l. inl (acyclic e i l);
+              low = (let o : count + n ≤ m = s.safe.low in omega arith);
+              cell = λ j l. subst⁻¹ (λ (x : ℕ). x < cells) (still-pending j (omega arith)) (s.safe.cell j (omega arith));
+              bound = λ j l z. s.safe.bound j (omega arith) (ap (cell_at after) (sym (still-pending j (omega arith))) ∙ z);
+              entry = entries;
             };
             sound = λ f. (let d : SoundSolving g after later m h = s.sound f in
                 record {
                   stack = stack-agrees ss nodes (bindings ss nodes after m) g.work.top (left_at later) (right_at later) (left_at end) (right_at end) h left-same right-same d.stack;
                   means = d.means ∙ ap₂ (unify_rows (bindings ss nodes after m)) (sym (rows_agree ss nodes (left_at later) (left_at end) h left-same)) (sym (rows_agree ss nodes (right_at later) (right_at end) h right-same));
-                  memo = memo-none ss nodes (bindings ss nodes after m) end no-classes no-cuts;
+                  memo = memo-none ss nodes (bindings ss nodes after m) end looked.no_classes looked.no_cuts;
                   closes = closes-agree ss nodes (bindings ss nodes after m) (left_at later) (right_at later) (left_at end) (right_at end) h no_term no_term left-same right-same d.closes;
                 });
             lost = s.lost;
           }
 
-      pub on-mass : mass nodes (left_at end) h ≡ mass nodes (left_at later) h
-      on-mass = mass-agrees nodes (left_at later) (left_at end) h left-same
+      pub look-on : Solving g after end m h left
+      unfolding solve-testable
+      look-on =
+          elim (looked.still left e) [
+            | inl z ↦ subst⁻¹ (Solving g after end m h) z.0 (on-with 0 (omega arith) (λ i l. inl (λ k. elim (s.safe.entry i l) [ inl a ↦ a k | inr a ↦ z.1 a.0 a.1.0 i l a.1.1 k ])))
+            | inr z ↦ subst⁻¹ (Solving g after end m h) z (on-with count (omega arith) (λ i l. elim (s.safe.entry i l) [ inl a ↦ inl a | inr a ↦ inr (a.0, (a.1.0, a.1.1 ∙ sym (still-pending a.0 a.1.0))) ]))
+          ]
+
+      pub look-mass : mass nodes (left_at end) h ≡ mass nodes (left_at later) h
+      look-mass = mass-agrees nodes (left_at later) (left_at end) h left-same
 
   -- ---- a turn
 

@@ -33,12 +33,12 @@ use Rattle.unify.specs.declared.walk.WalkStop.TheVariants.{Clash as Differ, Met}
 use Rattle.std.proofs.Common.{Ok, Err}
 use Rattle.unify.specs.Turns.{Turn}
 use Rattle.unify.specs.declared.solve.TurnStop.TheVariants.{Clash, Bind}
-use Rattle.unify.proofs.Rules.{rows-first, resolve-append}
+use Rattle.unify.proofs.Rules.{rows-first, rows_same, resolve-append}
 use Rattle.unify.proofs.Rowwise.{size-cons, one-followed, right-some, count-one}
-use Rattle.unify.proofs.Closing.{equal-cons, walk-equal, meet-equal, closes-agree, closes-terms, closes-less, closes-moved}
+use Rattle.unify.proofs.Closing.{equal-cons, walk-equal, meet-equal, closes-agree, closes-terms, closes-settled, closes-less, closes-moved}
 use Rattle.unify.proofs.Stacked.{pair-long, pair-others, pair-marks, pair_left, pair-right, pair-left-others, pair-right-others, left-front, right-front, rows_agree, rows-top, half-moved, stack-agrees, stack-less, height}
 
-marks-trans : (a b c : List ℕ) → SameMarks a b → SameMarks b c → SameMarks a c
+pub marks-trans : (a b c : List ℕ) → SameMarks a b → SameMarks b c → SameMarks a c
 marks-trans a b c x y = record { long = y.long ∙ x.long; words = λ j l. y.words j l ∙ x.words j l }
 
 -- rows that unify alike come to the same
@@ -47,6 +47,20 @@ turns-alike o ls rs ls' rs' after (Ok k) e g = record { stack = g.stack; means =
 turns-alike o ls rs ls' rs' after (Err Clash) e g = e ∙ g
 turns-alike o ls rs ls' rs' after (Err (Bind k x a)) e g =
     record { stack = g.stack; cell = g.cell; unbound = g.unbound; below = g.below; node = g.node; copy = g.copy; copy_below = g.copy_below; down = g.down; stands = λ z. e ∙ g.stands z; free = λ z. e ∙ g.free z; memo = g.memo; closes = g.closes }
+
+-- ---- two terms that are the same
+
+module _ {nodes state scratch : List ℕ} {h : ℕ} {p q : At} (g : Crossable nodes state scratch h p q) where
+  cross-same : resolve (bound (over g.work)) (term_at g.work.ss nodes p.node p.copy) ≡ resolve (bound (over g.work)) (term_at g.work.ss nodes q.node q.copy) → Crosses g scratch (Ok h)
+  cross-same e = (
+    record { long = refl; words = λ j l. refl },
+    record {
+      stack = g.work.stack;
+      means = rows_same (bound (over g.work)) (term_at g.work.ss nodes p.node p.copy) (term_at g.work.ss nodes q.node q.copy) (rows_of g.work.ss nodes (left_at scratch) h) (rows_of g.work.ss nodes (right_at scratch) h) e;
+      memo = g.work.memo;
+      closes = closes-settled g.work.ss nodes (bound (over g.work)) (left_at scratch) (right_at scratch) h (term_at g.work.ss nodes p.node p.copy) (term_at g.work.ss nodes q.node q.copy) e g.closes;
+    },
+  )
 
 -- ---- the crossing
 
@@ -369,16 +383,23 @@ module _ {nodes state scratch : List ℕ} {n h p q : ℕ} (w : Work nodes state 
       ap (rcons (term_at w.ss nodes q r0.copy)) (ap (rows_of w.ss nodes (right_at mid)) (sym back) ∙ (rows-top w.ss nodes (right_at mid) (h - 1) ∙ ap₂ followed (ap (row_of w.ss nodes) right-top) (rows_agree w.ss nodes (right_at scratch) (right_at mid) (h - 1) right-below)))
       ∙ (sym (one-followed (term_at w.ss nodes q r0.copy) (terms_at w.ss nodes qa (end_of nodes r0) r0.copy) (rows_of w.ss nodes (right_at scratch) (h - 1))) ∙ ap (λ (ts : RTerms). followed ts (rows_of w.ss nodes (right_at scratch) (h - 1))) (sym (right-cons r0.copy)))
 
-  pub meet-turned : (after : List ℕ) (t : Turn) → ((g : Crossable nodes state mid h p0 q0) → Crosses g after t) → TurnGives w after t
+  met-done : (after : List ℕ) (t : Turn) → Crosses meet-crossable after t → TurnGives w after t
   unfolding meet-crossable
-  meet-turned after t k =
-      let s : Crosses meet-crossable after t = k meet-crossable in (
-        marks-trans scratch mid after (pair-marks scratch (h - 1) (record l0 { at = pa }) (record r0 { at = qa }) fits) s.0,
-        turns-alike (over w) (rows_of w.ss nodes (left_at scratch) h) (rows_of w.ss nodes (right_at scratch) h) (rcons (term_at w.ss nodes p l0.copy) (rows_of w.ss nodes (left_at mid) h)) (rcons (term_at w.ss nodes q r0.copy) (rows_of w.ss nodes (right_at mid) h))
-            after t
-            (ap₂ (unify_rows b) top_left top_right ∙ (m.means b l0.copy r0.copy (rows_of w.ss nodes (left_at scratch) (h - 1)) (rows_of w.ss nodes (right_at scratch) (h - 1)) ∙ sym (ap₂ (unify_rows b) mid-left mid-right)))
-            s.1,
-      )
+  met-done after t s = (
+    marks-trans scratch mid after (pair-marks scratch (h - 1) (record l0 { at = pa }) (record r0 { at = qa }) fits) s.0,
+    turns-alike (over w) (rows_of w.ss nodes (left_at scratch) h) (rows_of w.ss nodes (right_at scratch) h) (rcons (term_at w.ss nodes p l0.copy) (rows_of w.ss nodes (left_at mid) h)) (rcons (term_at w.ss nodes q r0.copy) (rows_of w.ss nodes (right_at mid) h))
+        after t
+        (ap₂ (unify_rows b) top_left top_right ∙ (m.means b l0.copy r0.copy (rows_of w.ss nodes (left_at scratch) (h - 1)) (rows_of w.ss nodes (right_at scratch) (h - 1)) ∙ sym (ap₂ (unify_rows b) mid-left mid-right)))
+        s.1,
+  )
+
+  pub meet-turned : (after : List ℕ) (t : Turn) → ((g : Crossable nodes state mid h p0 q0) → Crosses g after t) → TurnGives w after t
+  meet-turned after t k = met-done after t (k meet-crossable)
+
+  -- two terms that are the same
+  pub met-same : resolve b (term_at w.ss nodes p l0.copy) ≡ resolve b (term_at w.ss nodes q r0.copy) → TurnGives w mid (Ok h)
+  unfolding meet-crossable
+  met-same e = met-done mid (Ok h) (cross-same meet-crossable e)
 
 -- the same, over the sides and sizes as they are read
 module _ {nodes state scratch : List ℕ} {h : ℕ} {l r : Side} (g : Meetable nodes state scratch h l r) where

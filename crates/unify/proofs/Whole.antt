@@ -149,6 +149,7 @@ module _ {nodes state scratch : List ℕ} {p q : At} {n : ℕ} (g : Unifiable no
     whole after later r s =
         record {
           grows = s.grows;
+          undone = s.undone;
           store = s.store;
           within = s.within;
           keeps = s.keeps;

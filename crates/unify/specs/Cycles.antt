@@ -3,15 +3,20 @@
 use Rattle.std.specs.Prelude.{ℕ, ◌+◌, ◌-◌, ◌*◌, ◌≤◌, ◌<◌, ◌≡◌, Bool, true, false, Option, Some, None, T, ◌⊎◌, List, [], ◌∷◌, length, get_or}
 use Rattle.syntax.specs.Words.{first_name}
 use Rattle.machine.specs.Substitution.{Variable, var, occurs, occurs_in, resolve}
-use Rattle.run_layout.specs.Regions.{cells, copies, store_words, pending, slots, path_of, loaded_node}
+use Rattle.run_layout.specs.Regions.{cells, copies, store_words, pending, cuts_word, slots, path_of, loaded_node}
+use Rattle.bindings.specs.Cuts.{cuts_made}
+use Rattle.bindings.specs.Memos.{classes_made}
 use Rattle.run_layout.specs.Nodes.{Symbol, Row, term_at, terms_at}
 use Rattle.run_layout.specs.State.{cell_of, variable_of, node_of, copy_of, cell_at, trail_at, value_of, bindings, ClosesCycle, Acyclic, RawStore}
 use Rattle.run_layout.specs.declared.terms.At.{At}
 use Rattle.bindings.specs.Cells.{StoredTerm}
-use Rattle.bindings.specs.Plain.{Clean, Constant}
+use Rattle.run_layout.specs.Rooms.{Clean}
+use Rattle.bindings.specs.Plain.{Constant}
 use Rattle.bindings.specs.Scratch.{Roomy}
 use Rattle.unify.specs.Rows.{nodes_of}
 use Rattle.unify.specs.declared.cycles.Progress.{Progress}
+use Rattle.unify.specs.declared.cycles.CycleSearch.{CycleSearch}
+use Rattle.unify.specs.declared.cycles.CycleSearch.TheVariants.{Cycle, NoCycle, GivenUp}
 
 unfoldable pub mark_symbols : List Symbol
 mark_symbols = record { name = []; arguments = 0 } ∷ []
@@ -174,6 +179,7 @@ pub record EnteredCell {nodes state before : List ℕ} {p : Progress} {y : ℕ} 
   pub search : SearchState g.given.ss nodes state g.given.n g.given.before after r
   pub height : r.height ≡ p.height + 1
   pub entered : r.entered ≡ p.entered + 1
+  pub limit : p.left ≡ None → r.left ≡ None
   pub more : StayMarked before after
   pub here : get_or after y 0 ≡ 0 → ⊥
 
@@ -186,6 +192,7 @@ search_left p = 2 * (cells - p.entered) + p.height
 pub record SearchedOn {nodes state before : List ℕ} {p : Progress} (g : Searching nodes state before p) (after : List ℕ) (r : Progress) : Type 0 where
   pub search : SearchState g.ss nodes state g.n g.before after r
   pub more : StayMarked before after
+  pub limit : p.left ≡ None → r.left ≡ None
   pub less : search_left r < search_left p
 
 -- On, or an entry closes a cycle; the words are then as they were.
@@ -193,23 +200,25 @@ abbrev pub SearchTurned : {nodes state before : List ℕ} {p : Progress} → Sea
 SearchTurned {nodes} {state} {before} g after None = (after ≡ before) × (Acyclic g.ss nodes state g.n → ⊥)
 SearchTurned g after (Some r) = SearchedOn g after r
 
--- Turns have stopped: the path is empty, or an entry closes a cycle.
+-- Turns have stopped: the path is empty, an entry closes a cycle, or the limit is spent.
 pub record SearchStopped {nodes state before : List ℕ} {p : Progress} (g : Searching nodes state before p) (after : List ℕ) (r : Progress) : Type 0 where
   pub search : SearchState g.ss nodes state g.n g.before after r
   pub more : StayMarked before after
-  pub cyclic : 1 ≤ r.height → Acyclic g.ss nodes state g.n → ⊥
+  pub limit : p.left ≡ None → r.left ≡ None
+  pub cyclic : 1 ≤ r.height → (r.left ≡ Some 0 → ⊥) → Acyclic g.ss nodes state g.n → ⊥
 
--- a search that begins when so many cells have been entered
-abbrev pub from_start : ℕ → Progress
-from_start m = record { height = 0; entered = m }
+-- a search that begins when so many cells have been entered, with so much left of a limit
+abbrev pub from_start : ℕ → Option ℕ → Progress
+from_start m left = record { height = 0; entered = m; left = left }
 
--- A search from cell x has ended: its path is empty, or an entry closes a cycle.
-pub record SearchEnded {nodes state before : List ℕ} {m : ℕ} (g : Searching nodes state before (from_start m)) (after : List ℕ) (x : ℕ)
-    (r : Progress) : Type 0 where
+-- A search from cell x has ended: its path is empty, an entry closes a cycle, or the limit is spent.
+pub record SearchEnded {nodes state before : List ℕ} {m : ℕ} {left : Option ℕ} (g : Searching nodes state before (from_start m left)) (after : List ℕ)
+    (x : ℕ) (r : Progress) : Type 0 where
   pub search : SearchState g.ss nodes state g.n g.before after r
   pub more : StayMarked before after
   pub here : get_or after x 0 ≡ 0 → ⊥
-  pub cyclic : 1 ≤ r.height → Acyclic g.ss nodes state g.n → ⊥
+  pub limit : left ≡ None → r.left ≡ None
+  pub cyclic : 1 ≤ r.height → (r.left ≡ Some 0 → ⊥) → Acyclic g.ss nodes state g.n → ⊥
 
 -- ---- the pending cells
 
@@ -224,15 +233,38 @@ pub record Testable (nodes state scratch : List ℕ) (pending : ℕ) : Type 0 wh
   pub cell : (j : ℕ) → j < pending → pending_at scratch j < cells
   pub bound : (j : ℕ) → j < pending → cell_at state (pending_at scratch j) ≡ 0 → ⊥
 
-pub record AllSearched {nodes state before : List ℕ} {pending : ℕ} (g : Testable nodes state before pending) (after : List ℕ) (r : Progress) : Type 0 where
+pub record AllSearched {nodes state before : List ℕ} {pending : ℕ} (g : Testable nodes state before pending) (limit : Option ℕ) (after : List ℕ)
+    (r : Progress) : Type 0 where
   pub search : SearchState g.ss nodes state g.n before after r
-  pub cyclic : 1 ≤ r.height → Acyclic g.ss nodes state g.n → ⊥
+  pub limited : limit ≡ None → r.left ≡ None
+  pub cyclic : 1 ≤ r.height → (r.left ≡ Some 0 → ⊥) → Acyclic g.ss nodes state g.n → ⊥
   pub marked : r.height ≡ 0 → (j : ℕ) → j < pending → get_or after (pending_at before j) 0 ≡ 0 → ⊥
 
--- Whether an entry closes a cycle, if each that may is pending.
+-- Whether an entry closes a cycle, if each that may is pending; only a limited search is given up.
+pub record CycleTested {nodes state before : List ℕ} {pending : ℕ} (g : Testable nodes state before pending) (limit : Option ℕ) (after : List ℕ)
+    (r : CycleSearch) : Type 0 where
+  pub long : length after ≡ length before
+  pub clean : Clean after
+  pub kept : (j : ℕ) → store_words ≤ j → j < slots → get_or after j 0 ≡ get_or before j 0
+  pub cyclic : r ≡ Cycle → Acyclic g.ss nodes state g.n → ⊥
+  pub free : r ≡ NoCycle → (j : ℕ) → j < pending → (i : ℕ) → i < g.n → trail_at state i ≡ pending_at before j → ClosesCycle g.ss nodes state i → ⊥
+  pub given_up : r ≡ GivenUp → limit ≡ None → ⊥
+
+-- The same with no limit.
 pub record Tested {nodes state before : List ℕ} {pending : ℕ} (g : Testable nodes state before pending) (after : List ℕ) (r : Bool) : Type 0 where
   pub long : length after ≡ length before
   pub clean : Clean after
   pub kept : (j : ℕ) → store_words ≤ j → j < slots → get_or after j 0 ≡ get_or before j 0
   pub cyclic : r ≡ true → Acyclic g.ss nodes state g.n → ⊥
   pub free : r ≡ false → (j : ℕ) → j < pending → (i : ℕ) → i < g.n → trail_at state i ≡ pending_at before j → ClosesCycle g.ss nodes state i → ⊥
+
+-- The same between turns: where no cycle is found, nothing is pending or as much as before, and short cuts and memo are empty.
+pub record Looked {nodes state before : List ℕ} {pending : ℕ} (g : Testable nodes state before pending) (after : List ℕ) (r : Option ℕ) : Type 0 where
+  pub long : length after ≡ length before
+  pub clean : Clean after
+  pub kept : (j : ℕ) → store_words ≤ j → j < cuts_word → get_or after j 0 ≡ get_or before j 0
+  pub no_classes : classes_made after ≡ 0
+  pub no_cuts : cuts_made after ≡ 0
+  pub cyclic : r ≡ None → Acyclic g.ss nodes state g.n → ⊥
+  pub still : (c : ℕ) → r ≡ Some c → ((c ≡ 0) × ((j : ℕ) → j < pending → (i : ℕ) → i < g.n → trail_at state i ≡ pending_at before j → ClosesCycle g.ss nodes state i → ⊥))
+      ⊎ (c ≡ pending)

@@ -142,6 +142,17 @@ SafeTurned {nodes} {state} {before} w after limit t = SameMarks before after × 
 abbrev pub TurnFalls : {nodes state before : List ℕ} {n h : ℕ} → SafeWork nodes state before n h → List ℕ → Turn → Type 0
 TurnFalls {nodes} {state} {before} {n} {h} w after t = SafeTurned w after (mass nodes (left_at before) h) t
 
+-- what is left where the rows of the top pair are moved on: no more than there was
+abbrev pub NoMoreLeft : {nodes state before : List ℕ} {n h : ℕ} → SafeWork nodes state before n h → List ℕ → Turn → Type 0
+NoMoreLeft {nodes} {state} {before} {n} {h} w after t = SafeTurned w after (suc (mass nodes (left_at before) h)) t
+
+-- the top pair of a stack, as it is read
+pub record TopPair (nodes scratch : List ℕ) (h : ℕ) (l r : Side) : Type 0 where
+  pub state : List ℕ
+  pub given : SafeTurnable nodes state scratch h
+  pub left_is : l ≡ left_at scratch (h - 1)
+  pub right_is : r ≡ right_at scratch (h - 1)
+
 -- what is left where the top row was moved on before: less than there was with a word of it
 abbrev pub PairFalls : {nodes state before : List ℕ} {n h : ℕ} → SafeWork nodes state before n h → List ℕ → Turn → Type 0
 PairFalls {nodes} {state} {before} {n} {h} w after t = SafeTurned w after (mass nodes (left_at before) h + weight (h - 1)) t

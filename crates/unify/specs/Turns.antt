@@ -8,9 +8,9 @@ use Rattle.machine.specs.Unification.{unify}
 use Rattle.run_layout.specs.Regions.{copies, copy_cells, cells, big_pairs}
 use Rattle.run_layout.specs.Nodes.{Symbol, TermLoaded, Node, term_at}
 use Rattle.run_layout.specs.State.{cell_of, variable_of, cell_at, bindings, Store, WithinCopies, BindingsKept}
-use Rattle.bindings.specs.Plain.{Clean}
+use Rattle.run_layout.specs.Rooms.{Clean}
 use Rattle.bindings.specs.Memos.{Memo}
-use Rattle.bindings.specs.Scratch.{left_at, right_at, SameMarks, Roomy}
+use Rattle.bindings.specs.Scratch.{left_at, right_at, pair_words, SameMarks, Roomy}
 use Rattle.run_layout.specs.declared.terms.At.{At}
 use Rattle.bindings.specs.declared.stack.Side.{Side}
 use Rattle.unify.specs.Rows.{unify_rows, nodes_of}
@@ -178,6 +178,10 @@ pub record Passable (scratch : List ℕ) (h : ℕ) (l r : Side) : Type 0 where
   pub walks : Walks work.ss nodes l.at (end_of nodes l) r.at (end_of nodes r) (Ok tt)
   pub closes : ClosesWith (over work) scratch h no_term no_term
 
+-- the words where the rows of the top pair of a stack are moved on to these places
+abbrev pub moved_to : List ℕ → ℕ → ℕ → ℕ → List ℕ
+moved_to scratch h i j = pair_words scratch (h - 1) (record (left_at scratch (h - 1)) { at = i }) (record (right_at scratch (h - 1)) { at = j })
+
 -- n bindings, and a stack that is not empty
 pub record Turnable (nodes state scratch : List ℕ) (h : ℕ) : Type 0 where
   pub n : ℕ
@@ -200,6 +204,7 @@ pub record Solvable (nodes state scratch : List ℕ) (n : ℕ) : Type 0 where
 
 pub record Solved {nodes before scratch : List ℕ} {n : ℕ} (g : Solvable nodes before scratch n) (after later : List ℕ) (r : UnifyAnswer) : Type 0 where
   pub grows : n ≤ r.trail
+  pub undone : r.equal ≡ false → r.trail ≡ n
   pub store : Store g.work.ss nodes after r.trail
   pub within : WithinCopies g.work.top after r.trail
   pub keeps : BindingsKept n before after
@@ -223,11 +228,12 @@ pub record Unifiable (nodes state scratch : List ℕ) (p q : At) (n : ℕ) : Typ
   pub below : p.copy ≤ top
   pub below_right : q.copy ≤ top
 
--- What `unify` promises: the store after; the entries before and the words behind the trail as they were; no cell marked; and the bindings that
--- the words then mean are those of the definition's `unify`, or there are none.
+-- What `unify` promises: the store after, with n bindings again where the terms do not unify; the entries before and the words behind the trail as they were;
+-- no cell marked; and the bindings that the words then mean are those of the definition's `unify`, or there are none.
 pub record UnifyGives {nodes before scratch : List ℕ} {p q : At} {n : ℕ} (g : Unifiable nodes before scratch p q n) (after later : List ℕ) (r : UnifyAnswer)
     : Type 0 where
   pub grows : n ≤ r.trail
+  pub undone : r.equal ≡ false → r.trail ≡ n
   pub store : Store g.ss nodes after r.trail
   pub within : WithinCopies g.top after r.trail
   pub keeps : BindingsKept n before after

@@ -2,7 +2,7 @@
 // put on the path, with the place reached in its term; when all variables of the term are done, so is the cell. A bound variable whose cell is open closes a
 // cycle. The marks stand where those of cells do, and the cells entered are listed as the trail lists bound cells, so that `undo` unmarks them.
 
-ghost use Rattle.std.specs.Prelude.{◌⊎◌, ◌≡◌, ◌+◌, ◌^◌, ◌≤◌, ◌<◌, true, false, length, get_or};
+ghost use Rattle.std.specs.Prelude.{Some, None, ◌⊎◌, ◌≡◌, ◌+◌, ◌^◌, ◌≤◌, ◌<◌, true, false, length, get_or};
 ghost use Rattle.syntax.specs.Words.{first_name};
 ghost use Rattle.run_layout.specs.Regions.{copies, cells, slots, slot_count};
 ghost use Rattle.run_layout.specs.State.{cell_of, cell_at, node_of};
@@ -11,7 +11,7 @@ ghost use Rattle.bindings.specs.Plain.{Plain};
 ghost use Rattle.bindings.specs.Scratch.{Roomy};
 ghost use Rattle.unify.specs.Cycles.{LeafCell, Shallow, term_end, CellSettled, LeadsOn, Lookable, Found, DoneWith, FirstPlace};
 ghost use Rattle.unify.specs.Cycles.{Searching, Enterable, EnteredCell, SearchTurned, SearchStopped, from_start, SearchEnded};
-ghost use Rattle.unify.specs.Cycles.{Testable, AllSearched, Tested};
+ghost use Rattle.unify.specs.Cycles.{Testable, AllSearched, CycleTested, Tested};
 
 use bindings::occurrence::{is_constant, is_plain};
 use bindings::store::{bind, undo};
@@ -37,11 +37,20 @@ const SPREAD: usize = 97;
 // The words of a term that is looked at, in place of a search.
 const MOST_SHALLOW: usize = 16 * LOADED_NODE;
 
-/// How far a search has come: the cells on its path, and the cells entered.
+/// How far a search has come: the cells on its path, the cells entered, and how many words of terms it may still enter, where there is a limit.
 #[derive(Clone, Copy)]
 pub struct Progress {
     pub height: usize,
     pub entered: usize,
+    pub left: Option<usize>,
+}
+
+/// What a search comes to. A limited one may be given up.
+#[derive(Clone, Copy)]
+pub enum CycleSearch {
+    Cycle,
+    NoCycle,
+    GivenUp,
 }
 
 // Whether a name stands at a place, or a variable, not that of cell x, that is unbound or bound to a constant.
@@ -157,6 +166,27 @@ fn first_place(nodes: &[u32], state: &[u32], scratch: &[u32], w: usize) -> usize
     q
 }
 
+// What is left of a limit when a term of so many words is entered.
+fn spent(left: Option<usize>, size: usize) -> Option<usize>
+    ensures { left ≡ None → result ≡ None }
+{
+    match left {
+        Some(n) => Some(n.saturating_sub(size)),
+        None => None,
+    }
+}
+
+// Whether nothing is left of a limit.
+fn is_spent(left: Option<usize>) -> bool
+    ensures spent { result ≡ true → left ≡ Some 0 }
+    ensures stays { result ≡ false → left ≡ Some 0 → ⊥ }
+{
+    match left {
+        Some(n) => n == 0,
+        None => false,
+    }
+}
+
 // Cell y, which is bound and not marked, put on the path.
 fn enter(nodes: &[u32], state: &[u32], scratch: &mut [u32], p: Progress, y: usize) -> Progress
     requires { Enterable nodes.now state.now scratch.old p y }
@@ -168,9 +198,11 @@ fn enter(nodes: &[u32], state: &[u32], scratch: &mut [u32], p: Progress, y: usiz
     let i = PATH + p.height * PATH_SIZE;
     put(scratch, i, y);
     put(scratch, i + 1, first);
+    let size = size_at(nodes, unpack(w).node);
     Progress {
         height: p.height + 1,
         entered: p.entered + 1,
+        left: spent(p.left, size),
     }
 }
 
@@ -203,7 +235,7 @@ fn search_turn(nodes: &[u32], state: &[u32], scratch: &mut [u32], p: Progress) -
     Some(enter(nodes, state, scratch, p, y))
 }
 
-// Turns until the path is empty. Where a cycle is found, the path stands.
+// Turns until the path is empty, or the limit is spent. Then, and where a cycle is found, the path stands.
 fn search_on(nodes: &[u32], state: &[u32], scratch: &mut [u32], start: Progress) -> Progress
     requires { Searching nodes.now state.now scratch.old start }
     ensures { (g : Searching nodes.now state.now scratch.old start) → SearchStopped g scratch.new result }
@@ -211,6 +243,9 @@ fn search_on(nodes: &[u32], state: &[u32], scratch: &mut [u32], start: Progress)
     let mut p = start;
     // How many turns a search takes is known only at its end.
     while 0 < p.height {
+        if is_spent(p.left) {
+            return p;
+        }
         let Some(q) = search_turn(nodes, state, scratch, p) else {
             return p;
         };
@@ -219,55 +254,103 @@ fn search_on(nodes: &[u32], state: &[u32], scratch: &mut [u32], start: Progress)
     p
 }
 
-// A search from cell x on, so many cells having been entered.
-fn search(nodes: &[u32], state: &[u32], scratch: &mut [u32], m: usize, x: usize) -> Progress
-    requires given { Searching nodes.now state.now scratch.old (from_start m) }
+// A search from cell x on, so many cells having been entered, with so much left of a limit.
+fn search(
+    nodes: &[u32],
+    state: &[u32],
+    scratch: &mut [u32],
+    m: usize,
+    left: Option<usize>,
+    x: usize,
+) -> Progress
+    requires given { Searching nodes.now state.now scratch.old (from_start m left) }
     requires cell { x < cells }
     requires bound { cell_at state.now x ≡ 0 → ⊥ }
     requires unmarked { get_or scratch.old x 0 ≡ 0 }
-    ensures { (g : Searching nodes.now state.now scratch.old (from_start m)) → SearchEnded g scratch.new x result }
+    ensures { (g : Searching nodes.now state.now scratch.old (from_start m left)) → SearchEnded g scratch.new x result }
 {
     let start = Progress {
         height: 0,
         entered: m,
+        left,
     };
     let p = enter(nodes, state, scratch, start, x);
     search_on(nodes, state, scratch, p)
 }
 
 // The same, unless cell x is marked: then it is done.
-fn search_from(nodes: &[u32], state: &[u32], scratch: &mut [u32], m: usize, x: usize) -> Progress
-    requires given { Searching nodes.now state.now scratch.old (from_start m) }
+fn search_from(
+    nodes: &[u32],
+    state: &[u32],
+    scratch: &mut [u32],
+    m: usize,
+    left: Option<usize>,
+    x: usize,
+) -> Progress
+    requires given { Searching nodes.now state.now scratch.old (from_start m left) }
     requires cell { x < cells }
     requires bound { cell_at state.now x ≡ 0 → ⊥ }
-    ensures { (g : Searching nodes.now state.now scratch.old (from_start m)) → SearchEnded g scratch.new x result }
+    ensures { (g : Searching nodes.now state.now scratch.old (from_start m left)) → SearchEnded g scratch.new x result }
 {
     if word_at(scratch, x) != 0 {
         return Progress {
             height: 0,
             entered: m,
+            left,
         };
     }
-    search(nodes, state, scratch, m, x)
+    search(nodes, state, scratch, m, left, x)
 }
 
-// Searches from so many pending cells, one after the other, until a cycle is found.
-fn search_pending(nodes: &[u32], state: &[u32], scratch: &mut [u32], pending: usize) -> Progress
+// Searches from so many pending cells, one after the other, until a cycle is found or the limit is spent.
+fn search_pending(
+    nodes: &[u32],
+    state: &[u32],
+    scratch: &mut [u32],
+    pending: usize,
+    limit: Option<usize>,
+) -> Progress
     requires { Testable nodes.now state.now scratch.old pending }
-    ensures { (g : Testable nodes.now state.now scratch.old pending) → AllSearched g scratch.new result }
+    ensures { (g : Testable nodes.now state.now scratch.old pending) → AllSearched g limit scratch.new result }
 {
     let mut m = 0;
+    let mut left = limit;
     for k in 0..pending {
         let x = word_at(scratch, PENDING + k);
-        let p = search_from(nodes, state, scratch, m, x);
+        let p = search_from(nodes, state, scratch, m, left, x);
         if 0 < p.height {
             return p;
         }
         m = p.entered;
+        left = p.left;
     }
     Progress {
         height: 0,
         entered: m,
+        left,
+    }
+}
+
+/// Whether one of so many pending cells reaches a cycle of cells. With a limit the search is given up where the terms that it enters have more words.
+pub fn find_cycle(
+    nodes: &[u32],
+    state: &[u32],
+    scratch: &mut [u32],
+    pending: usize,
+    limit: Option<usize>,
+) -> CycleSearch
+    requires { Testable nodes.now state.now scratch.old pending }
+    ensures { (g : Testable nodes.now state.now scratch.old pending) → CycleTested g limit scratch.new result }
+{
+    let p = search_pending(nodes, state, scratch, pending, limit);
+    undo(scratch, 0, p.entered);
+    if p.height == 0 {
+        return CycleSearch::NoCycle;
+    }
+    if is_spent(p.left) {
+        CycleSearch::GivenUp
+    } else {
+        CycleSearch::Cycle
     }
 }
 
@@ -279,7 +362,8 @@ pub fn is_cyclic(nodes: &[u32], state: &[u32], scratch: &mut [u32], pending: usi
     if pending == 0 {
         return false;
     }
-    let p = search_pending(nodes, state, scratch, pending);
-    undo(scratch, 0, p.entered);
-    0 < p.height
+    match find_cycle(nodes, state, scratch, pending, None) {
+        CycleSearch::NoCycle => false,
+        CycleSearch::Cycle | CycleSearch::GivenUp => true,
+    }
 }

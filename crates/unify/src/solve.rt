@@ -1,30 +1,39 @@
 // Unification: the outer loop, which takes over where a variable stands on a side, bound or not.
-ghost use Rattle.std.specs.Prelude.{◌≡◌, ◌+◌, ◌≤◌, ◌<◌, ◌^◌, true, false, Err, set};
+ghost use Rattle.std.specs.Prelude.{◌≡◌, ◌+◌, ◌≤◌, ◌<◌, ◌^◌, true, false, Ok, Err, List, ℕ, set};
 ghost use Rattle.run_layout.specs.Regions.{cells, pending, loaded_node};
 ghost use Rattle.bindings.specs.Cells.{Stored, Undone};
 ghost use Rattle.bindings.specs.Scratch.{Roomy};
 ghost use Rattle.bindings.specs.Plain.{Closed};
 ghost use Rattle.unify.specs.declared.solve.TurnStop.TheVariants.{Bind};
-ghost use Rattle.unify.specs.Turns.{Crossed, Crossable, Crosses, PairTurned, Meetable, Turnable, TurnGives, Openable, Passable};
-ghost use Rattle.unify.specs.Shapes.{SafeTurnable, SafeMeetable, SafePassable, SafeCrossable, SafeCrossed, SafeOpenable, TurnFalls, PairFalls};
+ghost use Rattle.unify.specs.Turns.{Crossed, Crossable, Crosses, PairTurned, Meetable, Turnable, TurnGives, Openable, Passable, moved_to};
+ghost use Rattle.unify.specs.Shapes.{SafeTurnable, SafeMeetable, SafePassable, SafeCrossable, SafeCrossed, SafeOpenable, TurnFalls, PairFalls, NoMoreLeft, TopPair};
 ghost use Rattle.unify.specs.Turns.{Solvable, Solved};
+ghost use Rattle.unify.specs.Cycles.{Testable, Looked};
 ghost use Rattle.unify.specs.Turns.{Unifiable, UnifyGives};
 ghost use Rattle.unify.specs.Stacks.{only_row, inner_row};
 
-use crate::cycles::{closes_none, is_cyclic};
+use crate::cycles::{CycleSearch, closes_none, find_cycle, is_cyclic};
 use crate::walk::{WalkStop, walk_rows};
 use bindings::memos::{forget, known, remember};
 use bindings::occurrence::closed_to;
-use bindings::shortcuts::follow;
+use bindings::shortcuts::{follow, is_same};
 use bindings::stack::{Side, put_pair, side_at};
 use bindings::store::{bind, undo};
 use run_layout::terms::{At, pack};
-use run_layout::{LOADED_NODE, PAIR_SIZE, PAIRS, PENDING, SIDE_SIZE, STACK, cell_of};
+use run_layout::{
+    BIG_PAIRS, CUTS_WORD, LOADED_NODE, PAIR_SIZE, PAIRS, PENDING, SIDE_SIZE, STACK, cell_of,
+};
 use syntax::FIRST_NAME;
 use words::tables::{put, size_at, word_at};
 
 // The turns after which it is first looked whether bindings close a cycle.
-const FIRST_TURNS: usize = 16384;
+const FIRST_TURNS: usize = 32;
+
+// The words of terms that such a look goes over at most, for each turn since the last one: so that looks take no longer than turns.
+const WORDS_A_TURN: usize = 32;
+
+// What a turn counts besides for each `BIG_PAIRS` pairs on the stack: there large terms are no pairs of their own, and it may walk through them.
+const HIGH_TURN: usize = 16;
 
 // The most turns between two such looks.
 const MOST_TURNS: usize = 1073741824;
@@ -197,8 +206,63 @@ fn pass(scratch: &mut [u32], h: usize, size: usize, l: Side, r: Side) -> Result<
     Ok(h - 1)
 }
 
+// The places that the rows of the top pair are moved on to.
+#[derive(Clone, Copy)]
+struct Places {
+    left: usize,
+    right: usize,
+}
+
+// The places in the top pair's rows, l and r, behind the last two variables that are known to mean the same, where all before is the same too.
+fn past_same(nodes: &[u32], scratch: &[u32], h: usize, l: Side, r: Side) -> Places
+    requires { TopPair nodes.now scratch.now h l r }
+    ensures means { (state : List ℕ) (g : Turnable nodes.now state scratch.now h)
+        → TurnGives g.work (moved_to scratch.now h result.left result.right) (Ok h) }
+    ensures safe { (state : List ℕ) (s : SafeTurnable nodes.now state scratch.now h)
+        → NoMoreLeft s.work (moved_to scratch.now h result.left result.right) (Ok h) }
+{
+    let e = l.root + size_at(nodes, l.root);
+    let mut i = l.at;
+    let mut j = r.at;
+    // How many there are is known only at the end.
+    while let Err(WalkStop::Met { left, right }) = walk_rows(nodes, i, e, j, h) {
+        let p = At {
+            node: left,
+            copy: l.copy,
+        };
+        let q = At {
+            node: right,
+            copy: r.copy,
+        };
+        if !is_same(nodes, scratch, p, q) {
+            return Places { left: i, right: j };
+        }
+        i = left + LOADED_NODE;
+        j = right + LOADED_NODE;
+    }
+    Places { left: i, right: j }
+}
+
+// The rows of the top pair of a stack of height h moved past variables that are known to mean the same.
+fn pass_same(nodes: &[u32], scratch: &mut [u32], h: usize)
+    requires { (state : List ℕ) × SafeTurnable nodes.now state scratch.old h }
+    ensures means { (state : List ℕ) (g : Turnable nodes.now state scratch.old h) → TurnGives g.work scratch.new (Ok h) }
+    ensures safe { (state : List ℕ) (s : SafeTurnable nodes.now state scratch.old h) → NoMoreLeft s.work scratch.new (Ok h) }
+{
+    let base = STACK + (h - 1) * PAIR_SIZE;
+    let l = side_at(scratch, base);
+    let r = side_at(scratch, base + SIDE_SIZE);
+    let to = past_same(nodes, scratch, h, l, r);
+    put_pair(
+        scratch,
+        h - 1,
+        Side { at: to.left, ..l },
+        Side { at: to.right, ..r },
+    );
+}
+
 // One turn at the top of a stack of height h.
-fn next_turn(nodes: &[u32], state: &[u32], scratch: &mut [u32], h: usize) -> Result<usize, TurnStop>
+fn turn_top(nodes: &[u32], state: &[u32], scratch: &mut [u32], h: usize) -> Result<usize, TurnStop>
     requires { SafeTurnable nodes.now state.now scratch.old h }
     ensures means { (g : Turnable nodes.now state.now scratch.old h) → TurnGives g.work scratch.new result }
     ensures safe { (s : SafeTurnable nodes.now state.now scratch.old h) → TurnFalls s.work scratch.new result }
@@ -223,6 +287,18 @@ fn next_turn(nodes: &[u32], state: &[u32], scratch: &mut [u32], h: usize) -> Res
     }
 }
 
+// One turn at the top of a stack of height h. Where short cuts were made, a walk was long, and it may be met again and again.
+fn next_turn(nodes: &[u32], state: &[u32], scratch: &mut [u32], h: usize) -> Result<usize, TurnStop>
+    requires { SafeTurnable nodes.now state.now scratch.old h }
+    ensures means { (g : Turnable nodes.now state.now scratch.old h) → TurnGives g.work scratch.new result }
+    ensures safe { (s : SafeTurnable nodes.now state.now scratch.old h) → TurnFalls s.work scratch.new result }
+{
+    if word_at(scratch, CUTS_WORD) != 0 {
+        pass_same(nodes, scratch, h);
+    }
+    turn_top(nodes, state, scratch, h)
+}
+
 // A cell that is to be bound becomes a pending one, of which there are so many, unless it is plain that it closes no cycle. How many there are then.
 fn note_pending(scratch: &mut [u32], count: usize, x: usize, plain: bool) -> usize
     requires { (Roomy scratch.old) × ((count < cells) × (x < cells)) }
@@ -244,6 +320,27 @@ fn doubled(turns: usize) -> usize
         MOST_TURNS
     } else {
         2 * turns
+    }
+}
+
+// A look, over so many words of terms at most, at whether one of so many pending cells reaches a cycle: none where it does, else how many cells are pending then.
+// Short cuts and memo are forgotten.
+fn look(
+    nodes: &[u32],
+    state: &[u32],
+    scratch: &mut [u32],
+    pending: usize,
+    words: usize,
+) -> Option<usize>
+    requires { Testable nodes.now state.now scratch.old pending }
+    ensures { (g : Testable nodes.now state.now scratch.old pending) → Looked g scratch.new result }
+{
+    let found = find_cycle(nodes, state, scratch, pending, Some(words));
+    forget(scratch);
+    match found {
+        CycleSearch::Cycle => None,
+        CycleSearch::NoCycle => Some(0),
+        CycleSearch::GivenUp => Some(pending),
     }
 }
 
@@ -281,16 +378,16 @@ fn solve_pair(
     let mut left = FIRST_TURNS;
     // How many turns there will be is known only at the end.
     while 0 < h {
-        if left == 0 {
-            if is_cyclic(nodes, state, scratch, count) {
+        if left == 0 && 0 < count {
+            let words = turns.saturating_mul(WORDS_A_TURN);
+            let Some(still) = look(nodes, state, scratch, count, words) else {
                 return fail(state, n, trail);
-            }
-            forget(scratch);
-            count = 0;
+            };
+            count = still;
             turns = doubled(turns);
             left = turns;
         } else {
-            left -= 1;
+            left = left.saturating_sub(1 + h / BIG_PAIRS * HIGH_TURN);
             let t = next_turn(nodes, state, scratch, h);
             match t {
                 Ok(j) => h = j,

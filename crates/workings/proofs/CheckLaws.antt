@@ -15,15 +15,17 @@ use Rattle.syntax.specs.declared.Fault.{Fault}
 use Rattle.syntax.specs.declared.Text.TheVariants.{Workings as in_workings, Neither}
 use Rattle.syntax.specs.declared.Refusal.TheVariants.{BadWorkings, LineTooLong}
 use Rattle.machine.specs.Answers.{line}
-use Rattle.run_layout.specs.Regions.{state_words}
-use Rattle.run_layout.specs.Rooms.{Zeros}
+use Rattle.run_layout.specs.Regions.{store_words, state_words}
+use Rattle.run_layout.specs.Rooms.{Zeros, Clean}
+use Rattle.bindings.specs.Cells.{Stored, Undone}
+use Rattle.bindings.proofs.Deref.{undone-clean}
 use Rattle.run_layout.specs.Nodes.{Symbol}
 use Rattle.run_layout.specs.State.{bindings}
 use Rattle.answers.specs.Telling.{names_of}
-use Rattle.answers.specs.Fitting.{Answerable, SomeAnswerable, Fitted}
+use Rattle.answers.specs.Fitting.{Answerable, SomeAnswerable, Tellable, Fitted}
 use Rattle.run.specs.Meanings.{Meaning}
-use Rattle.run.specs.Telling.{solution_of, meaning_of, Tellable}
-use Rattle.run.specs.Programs.{ZeroScratch, LimitedTables, Programmed, LinkedTables}
+use Rattle.run.specs.Telling.{solution_of, meaning_of, LentScratch}
+use Rattle.run.specs.Programs.{LimitedTables, Programmed, LinkedTables}
 use Rattle.run.specs.declared.alternatives.PileHeight.{PileHeight}
 use Rattle.run.specs.declared.telling.LoadedProgram.{LoadedProgram}
 use Rattle.run.proofs.ProgramLaws.{linked, runnable}
@@ -100,7 +102,7 @@ module _ {loaded : LoadedProgram} {clauses : ℕ} {state scratch text : List ℕ
           g = w.runnable.g;
           program = w.runnable.program;
           long = w.runnable.long;
-          zero_words = w.runnable.zero_words;
+          clean = w.runnable.clean;
         };
         count = w.count;
         roomy = w.runnable.lent.roomy;
@@ -109,6 +111,10 @@ module _ {loaded : LoadedProgram} {clauses : ℕ} {state scratch text : List ℕ
 
   pub replay-tellable : (later : List ℕ) → length later ≡ length scratch → Tellable later (length text)
   replay-tellable later e = omega (arith, e, w.runnable.lent.deep)
+
+  -- there is room for all cells and marks
+  pub replay-room : (after later : List ℕ) → length after ≡ length state → length later ≡ length scratch → (store_words ≤ length after) × (store_words ≤ length later)
+  replay-room after later e f = (omega (arith, e, w.runnable.clean.long), omega (arith, f, w.runnable.lent.clean.long))
 
   module _ (workings : List ℕ) (after : Bor (List ℕ)) (later : List ℕ) (r : Result PileHeight ℕ)
       (k : (v : ReplayStartable loaded.nodes.now loaded.code.now clauses state scratch) → ReplayEnded (start_meaning v) after.now later (replay v.start.sh (records_of workings) (begun v.start.g)) r) where
@@ -139,6 +145,16 @@ module _ {loaded : LoadedProgram} {clauses : ℕ} {state scratch text : List ℕ
       pub replay-answerable : SomeAnswerable (solution_of loaded after)
       replay-answerable = record { ss = w.runnable.ss; n = pile.trail; is = answerable }
 
+      pub replay-clean : Clean later
+      replay-clean = stands.clean
+
+      pub replay-stored : Stored after.now pile.trail
+      replay-stored = record { ss = w.runnable.ss; nodes = loaded.nodes.now; store = stands.piled.store.raw }
+
+      -- the line told, and all unbound again
+      pub replay-leaves : {told state1 : List ℕ} → Clean told → Undone after.now state1 0 pile.trail → Clean state1 × Clean told
+      replay-leaves {told} {state1} s u = (undone-clean after.now state1 pile.trail replay-stored u, s)
+
       pub replay-told : (new : List ℕ) (x : Result ℕ Fault)
           → ((ss : List Symbol) (n : ℕ) (g : Goal) → Answerable ss n (solution_of loaded after) → g.names ≡ names_of (solution_of loaded after)
           → OutcomeTold (fitting (length text) (line g (bindings ss loaded.nodes.now after.now n))) text new x)
@@ -151,11 +167,11 @@ module _ {loaded : LoadedProgram} {clauses : ℕ} {state scratch text : List ℕ
 -- ---- tables of its own
 
 module _ {loaded : LoadedProgram} {clauses : ℕ} (w : LinkedOver loaded clauses) where
-  pub checkable : {state scratch text : List ℕ} → Zeros state_words state → ZeroScratch scratch (length text) → Checkable loaded clauses state scratch text
+  pub checkable : {state scratch text : List ℕ} → Zeros state_words state → LentScratch scratch (length text) → Checkable loaded clauses state scratch text
   unfolding runnable
   checkable z y = record { runnable = runnable w.linked z y; count = w.count }
 
-  pub state-told : {state scratch text : List ℕ} (z : Zeros state_words state) (y : ZeroScratch scratch (length text)) (workings new : List ℕ) (x : Result ℕ Fault)
+  pub state-told : {state scratch text : List ℕ} (z : Zeros state_words state) (y : LentScratch scratch (length text)) (workings new : List ℕ) (x : Result ℕ Fault)
       → ((v : Checkable loaded clauses state scratch text) → OutcomeTold (over_replay v.runnable.g (length text) (replay v.runnable.sh (records_of workings) (begun v.runnable.g))) text new x)
       → OutcomeTold (over_replay w.linked.g (length text) (replay w.linked.sh (records_of workings) (begun w.linked.g))) text new x
   unfolding checkable runnable

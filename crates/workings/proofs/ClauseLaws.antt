@@ -16,7 +16,7 @@ use Rattle.run_layout.specs.Nodes.{Symbol}
 use Rattle.run_layout.specs.Program.{record_kind}
 use Rattle.run_layout.specs.Pile.{copy_at, literal_at, mark_at, path_at, alternative_at, pile_of}
 use Rattle.run_layout.proofs.Pile.{path-high, pile-count}
-use Rattle.bindings.specs.Plain.{Clean}
+use Rattle.run_layout.specs.Rooms.{Clean}
 use Rattle.bindings.specs.Scratch.{Roomy}
 use Rattle.run.specs.Moves.{Tryable, ClauseTried, rest_at}
 use Rattle.run.specs.Steps.{Running, meaning}

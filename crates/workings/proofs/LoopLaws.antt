@@ -9,7 +9,7 @@ use Rattle.syntax.specs.Limits.{longest_path, literals}
 use Rattle.machine.specs.Machine.{Alternative, pending, new_alternative, start}
 use Rattle.machine.specs.Low.{Low}
 use Rattle.machine_theorems.proofs.Low.{low-start}
-use Rattle.bindings.specs.Plain.{Clean}
+use Rattle.run_layout.specs.Rooms.{Clean}
 use Rattle.bindings.specs.Scratch.{Roomy}
 use Rattle.run.specs.Meanings.{Meaning, pile_in, PiledIn}
 use Rattle.run.specs.Steps.{meaning, Startable, Started}

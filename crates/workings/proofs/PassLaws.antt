@@ -20,7 +20,7 @@ use Rattle.run_layout.specs.Program.{record_kind}
 use Rattle.run_layout.specs.Pile.{rest_from, left_from, copy_at, literal_at, path_at, alternative_at, pile_of}
 use Rattle.run_layout.proofs.Pile.{HeadStands, pile-count}
 use Rattle.run_layout.proofs.Step.{left-also}
-use Rattle.bindings.specs.Plain.{Clean}
+use Rattle.run_layout.specs.Rooms.{Clean}
 use Rattle.bindings.specs.Scratch.{Roomy}
 use Rattle.run.specs.Moves.{rest_at}
 use Rattle.run.specs.Steps.{Running, meaning, Steppable, Stepped}

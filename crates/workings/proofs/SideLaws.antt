@@ -18,7 +18,7 @@ use Rattle.run_layout.specs.Nodes.{Symbol}
 use Rattle.run_layout.specs.Program.{record_kind}
 use Rattle.run_layout.specs.Pile.{rest_from, copy_at, literal_at, alternative_at, pile_of}
 use Rattle.run_layout.proofs.Pile.{pile-count, popped}
-use Rattle.bindings.specs.Plain.{Clean}
+use Rattle.run_layout.specs.Rooms.{Clean}
 use Rattle.bindings.specs.Scratch.{Roomy}
 use Rattle.run.specs.Meanings.{PiledIn}
 use Rattle.run.specs.Steps.{Running, meaning, Steppable, Stepped}

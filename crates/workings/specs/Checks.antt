@@ -17,7 +17,7 @@ pub record LinkedOver (loaded : LoadedProgram) (clauses : ℕ) : Type 0 where
   pub linked : ProgramLinked loaded
   pub count : clauses ≡ length linked.sh.clauses
 
--- the same, with a state of zeros, and with scratch words for unification and for the answer
+-- the same, with a state in which no cell is bound, and with scratch words for unification and for the answer
 pub record Checkable (loaded : LoadedProgram) (clauses : ℕ) (state scratch text : List ℕ) : Type 0 where
   pub runnable : Runnable loaded state scratch text
   pub count : clauses ≡ length runnable.sh.clauses

@@ -7,7 +7,7 @@ use Rattle.machine.specs.Low.{Low}
 use Rattle.run_layout.specs.Regions.{body_end_kind, split_kind}
 use Rattle.run_layout.specs.Program.{record_kind}
 use Rattle.run_layout.specs.Pile.{literal_at, mark_at, path_at, alternative_at}
-use Rattle.bindings.specs.Plain.{Clean}
+use Rattle.run_layout.specs.Rooms.{Clean}
 use Rattle.bindings.specs.Scratch.{Roomy}
 use Rattle.run.specs.Meanings.{Meaning, pile_in, PiledIn}
 use Rattle.run.specs.Steps.{Running}

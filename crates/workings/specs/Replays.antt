@@ -7,7 +7,7 @@ use Rattle.run_layout.specs.Regions.{body_end_kind, split_kind}
 use Rattle.run_layout.specs.Program.{record_kind}
 use Rattle.run_layout.specs.State.{bindings}
 use Rattle.run_layout.specs.Pile.{literal_at, mark_at}
-use Rattle.bindings.specs.Plain.{Clean}
+use Rattle.run_layout.specs.Rooms.{Clean}
 use Rattle.bindings.specs.Scratch.{Roomy}
 use Rattle.run.specs.Meanings.{Meaning, pile_in, PiledIn}
 use Rattle.run.specs.Steps.{Startable}
@@ -80,7 +80,7 @@ MoveMade m workings before scratch from after later (Stopped i) = comes_to m wor
 
 -- ---- the whole replay
 
--- a loaded program over a sheet of so many clauses, a state of zeros, and scratch words without a mark
+-- a loaded program over a sheet of so many clauses, a state in which no cell is bound, and scratch words without a mark
 pub record ReplayStartable (nodes code : List ℕ) (clauses : ℕ) (state scratch : List ℕ) : Type 0 where
   pub start : Startable nodes code state
   pub count : clauses ≡ length start.sh.clauses

@@ -6,19 +6,21 @@ ghost use Rattle.syntax.specs.Terms.{Goal};
 ghost use Rattle.machine.specs.Answers.{line};
 ghost use Rattle.run_layout.specs.Nodes.{Symbol};
 ghost use Rattle.run_layout.specs.State.{bindings};
+ghost use Rattle.run_layout.specs.Rooms.{Clean};
 ghost use Rattle.answers.specs.Telling.{names_of};
-ghost use Rattle.answers.specs.Fitting.{Answerable, SomeAnswerable};
-ghost use Rattle.run.specs.Telling.{solution_of, Tellable};
-ghost use Rattle.run.specs.Programs.{RoomFor, ZeroScratch, Programmed};
+ghost use Rattle.answers.specs.Fitting.{Answerable, SomeAnswerable, Tellable};
+ghost use Rattle.run.specs.Telling.{solution_of, LentScratch};
+ghost use Rattle.run.specs.Programs.{RoomFor, Programmed};
 ghost use Rattle.derivations.specs.Workings.{records_of, replay, begun, fitting, over_replay};
 ghost use Rattle.workings.specs.Checks.{OutcomeTold, Checkable, LinkedOver};
 
 use crate::replays::replay;
+use bindings::store::undo;
 use load::node_words::{ReadGoal, ReadSheet};
 use load::records::Compiled;
 use run::loaded_runs::load_program;
 use run::telling::{LoadedProgram, tell};
-use run_layout::rooms::cleared;
+use run_layout::rooms::{clear, cleared};
 use run_layout::{
     CODE_WORDS, NARROW_WORDS, NODES_WORDS, SHORT_SHEET, SHORT_TEXT, STATE_WORDS, WIDE_WORDS,
 };
@@ -33,9 +35,11 @@ fn tell_line(
 ) -> Result<usize, Fault>
     requires some_answerable { SomeAnswerable (solution_of loaded state) }
     requires tellable { Tellable scratch.old (length text.old) }
-    ensures { (ss : List Symbol) (n : ℕ) (g : Goal) → Answerable ss n (solution_of loaded.entry state.entry)
+    requires clean { Clean scratch.old }
+    ensures told { (ss : List Symbol) (n : ℕ) (g : Goal) → Answerable ss n (solution_of loaded.entry state.entry)
         → g.names ≡ names_of (solution_of loaded.entry state.entry)
         → OutcomeTold (fitting (length text.old) (line g (bindings ss loaded.entry.nodes.now state.now n))) text.old text.new result }
+    ensures clean { Clean scratch.new }
 {
     match tell(loaded, state, scratch, text, 0) {
         Some(bytes) => Ok(bytes),
@@ -46,7 +50,7 @@ fn tell_line(
     }
 }
 
-// The goal replayed, and its answer told.
+// The goal replayed, and its answer told. All that the replay bound is unbound then; where there is no answer no trail is handed up, and the cells are cleared.
 fn replay_and_tell(
     loaded: LoadedProgram,
     clauses: usize,
@@ -56,19 +60,28 @@ fn replay_and_tell(
     text: &mut [u8],
 ) -> Result<usize, Fault>
     requires { Checkable loaded clauses state.old scratch.old text.old }
-    ensures { (w : Checkable loaded.entry clauses state.old scratch.old text.old) → OutcomeTold
+    ensures told { (w : Checkable loaded.entry clauses state.old scratch.old text.old) → OutcomeTold
         (over_replay w.runnable.g (length text.old) (replay w.runnable.sh (records_of workings.now) (begun w.runnable.g))) text.old text.new result }
+    ensures leaves { Clean state.new × Clean scratch.new }
 {
     let program = Compiled {
         nodes: loaded.nodes,
         code: loaded.code,
     };
     match replay(program, clauses, workings, state, scratch) {
-        Ok(_) => tell_line(loaded, state, scratch, text),
-        Err(bytes) => Err(Fault {
-            text: Text::Workings,
-            refusal: Refusal::BadWorkings(bytes),
-        }),
+        Ok(pile) => {
+            let line = tell_line(loaded, state, scratch, text);
+            undo(state, 0, pile.trail);
+            line
+        }
+        Err(bytes) => {
+            clear(state);
+            clear(scratch);
+            Err(Fault {
+                text: Text::Workings,
+                refusal: Refusal::BadWorkings(bytes),
+            })
+        }
     }
 }
 
@@ -80,7 +93,7 @@ fn with_state(
     scratch: &mut [u32],
     text: &mut [u8],
 ) -> Result<usize, Fault>
-    requires { LinkedOver loaded clauses × ZeroScratch scratch.old (length text.old) }
+    requires { LinkedOver loaded clauses × LentScratch scratch.old (length text.old) }
     ensures { (w : LinkedOver loaded.entry clauses) → OutcomeTold
         (over_replay w.linked.g (length text.old) (replay w.linked.sh (records_of workings.now) (begun w.linked.g))) text.old text.new result }
 {

@@ -6,4 +6,4 @@ pub first_pair-requires : goal.first_pair-requires
 first_pair-requires c = pairable c.cleared-state.ensures c.cleared-scratch.ensures c.requires
 
 pub returns : goal.returns
-returns c = λ w. linked-judged c.cleared-state.ensures c.cleared-scratch.ensures c.first_pair.ensures w
+returns c = λ w. linked-judged c.cleared-state.ensures c.cleared-scratch.ensures c.first_pair.ensures.is w

@@ -2,7 +2,7 @@ use native.Mathlib.Omega.{arith}
 use mathlib.Core.Path.{sym, ap, ◌∙◌}
 use Prim.Native.Nat.{ℕ, ◌+◌, ◌-◌}
 use Rattle.syntax.specs.Words.{first_name}
-use Rattle.answers.proofs.WalkLaws.{head-inside, head_small, head-placed, head-room, head-variable, head-leaf, head-open, few-met}
+use Rattle.answers.proofs.WalkLaws.{head-inside, head_small, head-placed, head-room, head-variable, head-leaf, head-open}
 use Rattle.answers.proofs.Solution.append_head.Goals as goal
 
 pub word_at-w-requires : goal.word_at-w-requires
@@ -21,7 +21,7 @@ pub word_at-size-requires : goal.word_at-size-requires
 word_at-size-requires c = omega (arith, head-inside c.requires.some_heading.is)
 
 pub returns-then-size-eq-LOADED_NODE : goal.returns-then-size-eq-LOADED_NODE
-returns-then-size-eq-LOADED_NODE c = let word_at = c.word_at-w in let append-name = c.append_name-past in record { told = (λ ss b met rest h n. head-leaf h (omega (arith, word_at.ensures)) (ap (λ (x : ℕ). x - first_name) word_at.ensures) (sym c.word_at-size.ensures ∙ c.if-size-eq-LOADED_NODE.true) n (few-met c.requires.counting n) append-name.ensures.wrote); near = (omega (arith, append-name.ensures.wrote.past), (append-name.ensures.near, omega arith)) }
+returns-then-size-eq-LOADED_NODE c = let word_at = c.word_at-w in let append-name = c.append_name-past in record { told = (λ ss b met rest h n. head-leaf h (omega (arith, word_at.ensures)) (ap (λ (x : ℕ). x - first_name) word_at.ensures) (sym c.word_at-size.ensures ∙ c.if-size-eq-LOADED_NODE.true) n append-name.ensures.wrote); near = (omega (arith, append-name.ensures.wrote.past), (append-name.ensures.near, omega arith)) }
 
 pub overflow_add-first : goal.overflow_add-first
 overflow_add-first c = omega (arith, head-inside c.requires.some_heading.is)
@@ -36,4 +36,4 @@ pub overflow_add-higher : goal.overflow_add-higher
 overflow_add-higher c = omega (arith, c.requires.some_heading.is.rows.high, c.well_formed)
 
 pub returns : goal.returns
-returns c = let word_at = c.word_at-w in let append-name = c.append_name-past in let word-at2 = c.word_at-size in record { told = (λ ss b met rest h n. head-open h (omega (arith, word_at.ensures)) (ap (λ (x : ℕ). x - first_name) word_at.ensures) (λ z. c.if-size-eq-LOADED_NODE.false (word-at2.ensures ∙ z)) n (few-met c.requires.counting n) append-name.ensures.wrote (ap (λ (x : ℕ). c.args.t.node + x) word-at2.ensures) c.put_row.ensures); near = (omega (arith, append-name.ensures.wrote.past), (append-name.ensures.near, omega arith)) }
+returns c = let word_at = c.word_at-w in let append-name = c.append_name-past in let word-at2 = c.word_at-size in record { told = (λ ss b met rest h n. head-open h (omega (arith, word_at.ensures)) (ap (λ (x : ℕ). x - first_name) word_at.ensures) (λ z. c.if-size-eq-LOADED_NODE.false (word-at2.ensures ∙ z)) n append-name.ensures.wrote (ap (λ (x : ℕ). c.args.t.node + x) word-at2.ensures) c.put_row.ensures); near = (omega (arith, append-name.ensures.wrote.past), (append-name.ensures.near, omega arith)) }

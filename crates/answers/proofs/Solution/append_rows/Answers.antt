@@ -5,7 +5,7 @@ use Rattle.answers.proofs.WalkLaws.{going-none, going-then, some-on, count-on, g
 use Rattle.answers.proofs.Solution.append_rows.Goals as goal
 
 pub loop-rows-init : goal.loop-rows-init
-loop-rows-init c = let pre = c.requires in (refl, refl, refl, pre.some_setting, pre.counting.0, omega arith, inr refl, going-none pre.counting.0, pre.counting.1.1)
+loop-rows-init c = let pre = c.requires in (refl, refl, refl, pre.some_setting, pre.counting.0, omega arith, inr refl, going-none, pre.counting.1.1)
 
 pub returns-after-loop-rows : goal.returns-after-loop-rows
 returns-after-loop-rows c = let loop = c.loop-rows.invariant in record { told = going_done loop.7 c.loop-rows-test.false; near = (loop.5, loop.6) }

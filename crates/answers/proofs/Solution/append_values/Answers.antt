@@ -1,13 +1,19 @@
 use native.Mathlib.Omega.{arith}
 use mathlib.Core.Path.{refl, ◌∙◌}
-use Rattle.answers.proofs.ValueLaws.{listing_none, listing-counting, listing-next, listing-over, listing-end, some-valued, word-inside, near_on, listing-counted}
+use Rattle.answers.proofs.ValueLaws.{listing_none, listing-counting, listing-next, listing-over, listing-end, some-valued, word-inside, near_on, listing-numbers}
 use Rattle.answers.proofs.Solution.append_values.Goals as goal
 
 pub loop-i-init : goal.loop-i-init
-loop-i-init c = let pre = c.requires in (refl, refl, refl, omega arith, omega (arith, pre.counting.1.0), listing_none pre.counting.0, omega arith)
+loop-i-init c = let pre = c.requires in (refl, refl, refl, omega arith, omega (arith, pre.counting.1.0), listing_none, omega arith)
 
 pub returns-then-limit-listed : goal.returns-then-limit-listed
-returns-then-limit-listed c = let loop = c.loop-i in record { lined = listing-over loop.listed loop.i loop.invariant.5 c.if-limit-listed.true; counted = λ l. absurd (omega (arith, c.if-limit-listed.true, l)) }
+returns-then-limit-listed c =
+    let pre = c.requires in
+    let loop = c.loop-i in
+    record {
+      lined = listing-over loop.listed loop.i loop.invariant.5 c.if-limit-listed.true;
+      numbered = listing-numbers loop.listed loop.i loop.invariant.5 pre.some_values pre.counting.0;
+    }
 
 pub offset_bounds-self-i : goal.offset_bounds-self-i
 offset_bounds-self-i c = omega (arith, c.requires.some_values.is.named.listed, c.loop-i-test.true)
@@ -25,4 +31,10 @@ pub append_byte-requires : goal.append_byte-requires
 append_byte-requires c = omega (arith, c.loop-i.invariant.4)
 
 pub returns : goal.returns
-returns c = let pre = c.requires in let loop = c.loop-i in record { lined = listing-end loop.listed loop.i loop.invariant.5 c.loop-i-test.false c.append_byte.ensures; counted = λ l. listing-counted loop.listed loop.i loop.invariant.5 pre.some_values pre.counting.0 (omega (arith, loop.invariant.4)) c.append_byte.ensures l }
+returns c =
+    let pre = c.requires in
+    let loop = c.loop-i in
+    record {
+      lined = listing-end loop.listed loop.i loop.invariant.5 c.loop-i-test.false c.append_byte.ensures;
+      numbered = listing-numbers loop.listed loop.i loop.invariant.5 pre.some_values pre.counting.0;
+    }

@@ -1,10 +1,10 @@
 use native.Mathlib.Omega.{arith}
 use mathlib.Core.Path.{refl}
-use Rattle.answers.proofs.WalkLaws.{turn-close, turn_inside, turn_end, turn_small, turn-facing, turn-spelt, top-room, counting-on, few-met}
+use Rattle.answers.proofs.WalkLaws.{turn-close, turn_inside, turn_end, turn_small, turn-facing, turn-spelt, top-room, counting-on}
 use Rattle.answers.proofs.Solution.turn.Goals as goal
 
 pub returns-then-place-row : goal.returns-then-place-row
-returns-then-place-row c = let pre = c.requires.height_nonzero in let row = c.row_at-row.ensures in record { told = (λ ss n met rest s h. turn-close s pre.0 refl row.place row.last c.if-place-row.true met rest h (few-met pre.1.0 h) c.append_byte-past.ensures); near = (omega (arith, c.append_byte-past.ensures.past), (omega (arith, c.append_byte-past.ensures.past), omega arith)) }
+returns-then-place-row c = let pre = c.requires.height_nonzero in let row = c.row_at-row.ensures in record { told = (λ ss n met rest s h. turn-close s pre.0 refl row.place row.last c.if-place-row.true met rest h c.append_byte-past.ensures); near = (omega (arith, c.append_byte-past.ensures.past), (omega (arith, c.append_byte-past.ensures.past), omega arith)) }
 
 pub past-next-requires : goal.past-next-requires
 past-next-requires c = let row = c.row_at-row.ensures in let inside = turn_inside c.requires.some_setting.is c.requires.height_nonzero.0 refl row.place row.last row.copy c.if-place-row.false in (omega arith, turn_end c.requires.some_setting.is c.requires.height_nonzero.0 refl row.place row.last row.copy c.if-place-row.false)

@@ -1,26 +1,44 @@
-use mathlib.Core.List.{[]}
-use mathlib.Core.Path.{refl, subst⁻¹}
+use mathlib.Core.Path.{refl}
 use native.Mathlib.Omega.{arith}
-use Rattle.answers.specs.Words.{Numbers}
-use Rattle.answers.proofs.LineLaws.{numbers-clear, numbers-again, counting-at, measured-none, measured-put, some-values, values_of}
+use Rattle.answers.proofs.LineLaws.{measured-none, measured-put, clean-marks, clean-whole}
 use Rattle.answers.proofs.lines.put_values.Goals as goal
-use Rattle.answers.proofs.lines.put_values.Goals.{then-numbers-ne0, else-numbers-ne0}
 
-pub append_values-past-requires : goal.append_values-past-requires
-append_values-past-requires c = let pre = c.requires in record { some_values = some-values _ pre.some_answerable; counting = (counting-at numbers-clear (omega (arith, pre.at_in_bounds.0, c.well_formed)), (omega (arith, pre.at_in_bounds.0, c.well_formed), (omega (arith, c.well_formed), pre.at_in_bounds.1))) }
+pub append_line-past-requires : goal.append_line-past-requires
+append_line-past-requires c =
+    let pre = c.requires in
+    let parts = c.split_at_mut-marks.ensures in
+    record {
+      some_answerable = pre.some_answerable;
+      clean = clean-marks pre.clean (omega (arith, pre.at_in_bounds.1)) parts.front;
+      long = omega (arith, parts.front_len);
+      near = (omega (arith, pre.at_in_bounds.0, c.well_formed), (omega (arith, c.well_formed), omega (arith, parts.back_len, pre.at_in_bounds.1)));
+    }
 
 pub returns-then-room-past : goal.returns-then-room-past
-returns-then-room-past c = λ ss n v. measured-none refl c.if-room-past.true (c.append_values-past.ensures.lined ss n [] (values_of _ v) numbers-clear)
+returns-then-room-past c =
+    let line = c.append_line-past.ensures in
+    record { fitted = (λ ss n v. measured-none refl c.if-room-past.true (line.lined ss n v)); clean = clean-whole line.clean _ }
 
-pub append_values-requires : goal.append_values-requires
-append_values-requires c =
+pub append_line-requires : goal.append_line-requires
+append_line-requires c =
     let pre = c.requires in
-    let measured = c.append_values-past in
-    let clear : Numbers c.if-numbers-ne0.numbers [] = elim c.if-numbers-ne0.branch [ then-numbers-ne0 w ↦ subst⁻¹ (λ l. Numbers l []) w.numbers-is numbers-clear | else-numbers-ne0 w ↦ subst⁻¹ (λ l. Numbers l []) w.numbers-is (numbers-again (measured.ensures.counted c.if-room-past.false) w.if-numbers-ne0.false) ] in
-    record { some_values = some-values _ pre.some_answerable; counting = (counting-at clear (omega (arith, pre.at_in_bounds.0, c.well_formed)), (omega (arith, pre.at_in_bounds.0, c.well_formed), (omega (arith, c.well_formed), omega (arith, measured.auto.stack, pre.at_in_bounds.1)))) }
+    let parts = c.split_at_mut-marks.ensures in
+    let measured = c.append_line-past in
+    record {
+      some_answerable = pre.some_answerable;
+      clean = measured.ensures.clean;
+      long = omega (arith, measured.auto.marks, parts.front_len);
+      near = (
+        omega (arith, pre.at_in_bounds.0, c.well_formed),
+        (omega (arith, c.well_formed), omega (arith, measured.auto.stack, parts.back_len, pre.at_in_bounds.1)),
+      );
+    }
 
 pub returns : goal.returns
 returns c =
-    let measured = c.append_values-past in
-    let clear : Numbers c.if-numbers-ne0.numbers [] = elim c.if-numbers-ne0.branch [ then-numbers-ne0 w ↦ subst⁻¹ (λ l. Numbers l []) w.numbers-is numbers-clear | else-numbers-ne0 w ↦ subst⁻¹ (λ l. Numbers l []) w.numbers-is (numbers-again (measured.ensures.counted c.if-room-past.false) w.if-numbers-ne0.false) ] in
-    λ ss n v. measured-put refl c.if-room-past.false (measured.ensures.lined ss n [] (values_of _ v) numbers-clear) (c.append_values.ensures.lined ss n [] (values_of _ v) clear)
+    let measured = c.append_line-past.ensures in
+    let line = c.append_line.ensures in
+    record {
+      fitted = (λ ss n v. measured-put refl c.if-room-past.false (measured.lined ss n v) (line.lined ss n v));
+      clean = clean-whole line.clean _;
+    }

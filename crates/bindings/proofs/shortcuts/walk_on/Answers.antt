@@ -1,20 +1,16 @@
-use Rattle.bindings.proofs.ShortcutsLaws.{none-is, some-is, walk-begin, walk_end, walk-follow, walk-cut, walk-falls, walk-next}
+use mathlib.Core.Path.{refl}
+use Rattle.std.proofs.Common.{None}
+use Rattle.bindings.proofs.ShortcutsLaws.{stays, linked, shortenable, shortened}
 use Rattle.bindings.proofs.shortcuts.walk_on.Goals as goal
 
-pub loop-at-init : goal.loop-at-init
-loop-at-init c = λ g. walk-begin c.args.nodes.now c.args.front.now c.args.scratch.now c.args.from.node c.args.from.copy g
+pub returns-in_default : goal.returns-in_default
+returns-in_default c = λ g. stays g None refl c.in_default.ensures
 
-pub stride-s-requires : goal.stride-s-requires
-stride-s-requires c = walk-follow c.args.nodes.now c.args.front.now c.args.scratch.now c.args.from.node c.args.from.copy c.requires (c.loop-at.invariant c.requires)
+pub way_on-way-requires : goal.way_on-way-requires
+way_on-way-requires c = linked c.requires c.in-Some.ensures refl
 
-pub returns-then-is_none : goal.returns-then-is_none
-returns-then-is_none c = λ g. walk_end c.args.nodes.now c.args.front.now c.args.scratch.now c.args.from.node c.args.from.copy g (c.loop-at.invariant g) c.stride-s.ensures (none-is _ c.if-is_none.ensures)
+pub shorten-requires : goal.shorten-requires
+shorten-requires c = shortenable c.requires c.in-Some.ensures refl c.way_on-way.ensures
 
-pub cut_between-requires : goal.cut_between-requires
-cut_between-requires c = walk-cut c.args.nodes.now c.args.front.now c.args.scratch.now c.args.from.node c.args.from.copy c.requires (c.loop-at.invariant c.requires) c.stride-s.ensures (some-is _ c.if-is_none.ensures)
-
-pub loop-at-smaller : goal.loop-at-smaller
-loop-at-smaller c = walk-falls c.args.nodes.now c.args.front.now c.args.scratch.now c.args.from.node c.args.from.copy c.requires (c.loop-at.invariant c.requires) c.stride-s.ensures (some-is _ c.if-is_none.ensures)
-
-pub loop-at-preserved : goal.loop-at-preserved
-loop-at-preserved c = λ g. walk-next c.args.nodes.now c.args.front.now c.args.scratch.now c.args.from.node c.args.from.copy g (c.loop-at.invariant g) c.stride-s.ensures (some-is _ c.if-is_none.ensures) c.cut_between.ensures
+pub returns : goal.returns
+returns c = λ g. shortened g c.in-Some.ensures refl c.way_on-way.ensures c.shorten.ensures

@@ -1,5 +1,5 @@
 -- The array keeps its length, and the words counted are whole.
-use Rattle.std.proofs.Common.{◌-◌, ◌≡◌, ◌*◌, ◌≤◌, length}
+use Rattle.std.proofs.Common.{◌≡◌, ◌*◌, ◌≤◌, length}
 use Rattle.engine_cases.proofs.list_case.words_of.Given as goal
 
 abbrev pub invariant-loop-i : goal.invariant-loop-i

@@ -2,10 +2,10 @@ use Rattle.run.proofs.ProgramLaws.{loads, links, linked_tables}
 use Rattle.run.proofs.loaded_runs.load_program.Goals as goal
 
 pub load_nodes-requires : goal.load_nodes-requires
-load_nodes-requires c = loads c.requires.tables c.requires.zeros.0 c.requires.zeros.1.0
+load_nodes-requires c = loads c.requires.tables c.requires.room
 
 pub link-requires : goal.link-requires
-link-requires c = links c.requires.tables c.requires.zeros.0 c.requires.zeros.1.0 c.load_nodes.auto.nodes c.load_nodes.ensures c.requires.zeros.1.1
+link-requires c = links c.requires.tables c.requires.room c.load_nodes.auto.nodes c.load_nodes.ensures
 
 pub returns : goal.returns
-returns c = λ w. linked_tables w c.requires.zeros.0 c.requires.zeros.1.0 c.load_nodes.auto.nodes c.load_nodes.ensures c.requires.zeros.1.1 c.link.ensures
+returns c = λ w. linked_tables w c.requires.room c.load_nodes.auto.nodes c.load_nodes.ensures c.link.ensures

@@ -5,13 +5,23 @@ pub rewind-trail-requires : goal.rewind-trail-requires
 rewind-trail-requires c = answer-rewinds c.requires
 
 pub tell-requires : goal.tell-requires
-tell-requires c = record { some_answerable = answer-tells c.requires _ c.rewind-trail.ensures; at_in_bounds = answer-room c.requires c.rewind-trail.ensures }
+tell-requires c =
+    record {
+      some_answerable = answer-tells c.requires _ c.rewind-trail.ensures;
+      at_in_bounds = answer-room c.requires c.rewind-trail.ensures;
+      clean = c.requires.under.lent.clean;
+    }
 
 pub returns-in_default : goal.returns-in_default
-returns-in_default c = λ w. answer-full w _ c.rewind-trail.ensures c.tell.ensures.fitted c.tell.ensures.marks c.in_default.is
+returns-in_default c =
+    let told = c.tell.ensures in
+    λ w. answer-full w _ c.rewind-trail.ensures told.fitted c.tell.auto.scratch told.clean c.in_default.is
 
 pub step-p-requires : goal.step-p-requires
-step-p-requires c = answer-steps c.requires c.rewind-trail.ensures c.tell.ensures.marks
+step-p-requires c = answer-steps c.requires c.rewind-trail.ensures c.tell.auto.scratch c.tell.ensures.clean
 
 pub returns : goal.returns
-returns c = λ w. answer-on w _ c.rewind-trail.ensures c.tell.ensures.fitted c.tell.ensures.marks c.in-Some.is _ _ c.step-p.result c.step-p.ensures
+returns c =
+    let told = c.tell.ensures in
+    let stepped = c.step-p in
+    λ w. answer-on w _ c.rewind-trail.ensures told.fitted c.tell.auto.scratch told.clean c.in-Some.is _ _ stepped.result stepped.ensures

@@ -13,13 +13,13 @@ pub next_of-requires : goal.next_of-requires
 next_of-requires c = go-running c.loop-kind.invariant c.requires.underway
 
 pub returns-in-End : goal.returns-in-End
-returns-in-End c = λ w. go-end c.loop-kind.invariant w c.next_of.ensures c.in-End.kind c.in-End.is
+returns-in-End c = λ w. rw c.at_end.ensures (go-end c.loop-kind.invariant w c.next_of.ensures c.in-End.kind c.in-End.is)
 
 pub answer-t-requires : goal.answer-t-requires
 answer-t-requires c = go-answers c.loop-kind.invariant c.requires.underway c.next_of.ensures c.in-Answer.is
 
 pub returns-in_default : goal.returns-in_default
-returns-in_default c = λ w. go-full c.loop-kind.invariant w c.next_of.ensures c.in-Answer.is c.answer-t.ensures c.in_default.is
+returns-in_default c = λ w. rw c.at_end-in_default.ensures (go-full c.loop-kind.invariant w c.next_of.ensures c.in-Answer.is c.answer-t.ensures c.in_default.is)
 
 pub overflow_add-answers : goal.overflow_add-answers
 overflow_add-answers c = omega (arith, go-below c.loop-kind.invariant c.requires.underway c.next_of.ensures c.in-Answer.is, c.well_formed)

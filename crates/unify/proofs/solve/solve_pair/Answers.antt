@@ -1,6 +1,7 @@
 use Prim.Native.Nat.{◌-◌}
+use mathlib.Core.Path.{refl}
 use native.Mathlib.Omega.{arith}
-use Rattle.unify.proofs.Solving.{solve-begin, mass-low, solve-stored, solve-testable, solve-cyclic, solve-done, solve-forget, solve-on, on-mass, solve-turnable, solve-clash, turn-next, turn-falls, due-stored, due-room, due-closed, bind-next, bind-falls}
+use Rattle.unify.proofs.Solving.{solve-begin, mass-low, solve-stored, solve-testable, solve-cyclic, solve-done, look-lost, look-on, look-mass, solve-turnable, solve-clash, turn-next, turn-falls, due-stored, due-room, due-closed, bind-next, bind-falls}
 use Rattle.unify.proofs.solve.solve_pair.Goals as goal
 
 pub loop-h-init : goal.loop-h-init
@@ -8,23 +9,20 @@ loop-h-init c = ((c.requires.closed, omega arith), λ g. solve-begin g)
 
 -- ---- the test
 
-pub is_cyclic-requires : goal.is_cyclic-requires
-is_cyclic-requires c = solve-testable c.requires.solvable (c.loop-h.invariant.1 c.requires.solvable)
+pub look-requires : goal.look-requires
+look-requires c = solve-testable c.requires.solvable (c.loop-h.invariant.1 c.requires.solvable)
 
 pub fail-requires : goal.fail-requires
 fail-requires c = record { stored = solve-stored c.requires.solvable (c.loop-h.invariant.1 c.requires.solvable); low = (c.loop-h.invariant.1 c.requires.solvable).safe.grows }
 
-pub returns-then-is_cyclic : goal.returns-then-is_cyclic
-returns-then-is_cyclic c = λ g. rw c.fail.ensures.is (solve-cyclic g (c.loop-h.invariant.1 g) c.is_cyclic.ensures c.if-is_cyclic.true c.fail.ensures.undone)
+pub returns-in_default : goal.returns-in_default
+returns-in_default c = λ g. rw c.fail.ensures.is (look-lost g (c.loop-h.invariant.1 g) c.look.ensures c.in_default.is c.fail.ensures.undone)
 
-pub forget-requires : goal.forget-requires
-forget-requires c = solve-forget c.requires.solvable (c.loop-h.invariant.1 c.requires.solvable) c.is_cyclic.ensures
+pub loop-h-smaller-then-count-gt0 : goal.loop-h-smaller-then-count-gt0
+loop-h-smaller-then-count-gt0 c = omega (arith, look-mass c.requires.solvable (c.loop-h.invariant.1 c.requires.solvable) c.look.ensures c.in-Some.is, c.doubled-turns.ensures c.loop-h.invariant.0.1, c.if-left-eq0.true)
 
-pub loop-h-smaller-then-left-eq0 : goal.loop-h-smaller-then-left-eq0
-loop-h-smaller-then-left-eq0 c = omega (arith, on-mass c.requires.solvable (c.loop-h.invariant.1 c.requires.solvable) c.is_cyclic.ensures c.if-is_cyclic.false c.forget.ensures, c.doubled-turns.ensures c.loop-h.invariant.0.1, c.if-left-eq0.true)
-
-pub loop-h-preserved-then-left-eq0 : goal.loop-h-preserved-then-left-eq0
-loop-h-preserved-then-left-eq0 c = ((c.loop-h.invariant.0.0, c.doubled-turns.ensures c.loop-h.invariant.0.1), λ g. solve-on g (c.loop-h.invariant.1 g) c.is_cyclic.ensures c.if-is_cyclic.false c.forget.ensures)
+pub loop-h-preserved-then-count-gt0 : goal.loop-h-preserved-then-count-gt0
+loop-h-preserved-then-count-gt0 c = ((c.loop-h.invariant.0.0, c.doubled-turns.ensures c.loop-h.invariant.0.1), λ g. look-on g (c.loop-h.invariant.1 g) c.look.ensures c.in-Some.is)
 
 -- ---- a turn
 
@@ -56,7 +54,7 @@ overflow_add-trail c = omega (arith, due-room c.requires.solvable (c.loop-h.inva
 
 pub loop-h-smaller : goal.loop-h-smaller
 loop-h-smaller c =
-    bind-falls c.args.nodes.now c.loop-h.scratch c.note_pending-count.new.scratch c.loop-h.trail c.loop-h.h c.in-Err-Bind.height c.loop-h.left (c.loop-h.left - 1) (due-room c.requires.solvable (c.loop-h.invariant.1 c.requires.solvable) c.loop-h-test.true c.next_turn-t.result c.next_turn-t.ensures.means c.next_turn-t.ensures.safe c.in-Err-Bind.is (rw c.in-Err-Bind.is at c.in-Err-Bind.field-0-is)).1.0
+    bind-falls c.args.nodes.now c.loop-h.scratch c.note_pending-count.new.scratch c.loop-h.trail c.loop-h.h c.in-Err-Bind.height c.loop-h.left _ (due-room c.requires.solvable (c.loop-h.invariant.1 c.requires.solvable) c.loop-h-test.true c.next_turn-t.result c.next_turn-t.ensures.means c.next_turn-t.ensures.safe c.in-Err-Bind.is (rw c.in-Err-Bind.is at c.in-Err-Bind.field-0-is)).1.0
     (mass-low c.requires.solvable (bind-next c.requires.solvable (c.loop-h.invariant.1 c.requires.solvable) c.loop-h-test.true c.next_turn-t.result c.next_turn-t.ensures.means c.next_turn-t.ensures.safe c.in-Err-Bind.is (rw c.in-Err-Bind.is at c.in-Err-Bind.field-0-is) c.loop-h.invariant.0.0 c.closes_none-plain.ensures c.note_pending-count.ensures.passed c.note_pending-count.ensures.noted c.bind.ensures))
 
 pub loop-h-preserved : goal.loop-h-preserved
@@ -64,14 +62,14 @@ loop-h-preserved c = ((due-closed c.requires.solvable (c.loop-h.invariant.1 c.re
 
 -- ---- the end
 
-pub is_cyclic-requires-2 : goal.is_cyclic-requires-2
-is_cyclic-requires-2 c = solve-testable c.requires.solvable (c.loop-h.invariant.1 c.requires.solvable)
+pub is_cyclic-requires : goal.is_cyclic-requires
+is_cyclic-requires c = solve-testable c.requires.solvable (c.loop-h.invariant.1 c.requires.solvable)
 
-pub fail-requires-then-is_cyclic-2 : goal.fail-requires-then-is_cyclic-2
-fail-requires-then-is_cyclic-2 c = record { stored = solve-stored c.requires.solvable (c.loop-h.invariant.1 c.requires.solvable); low = (c.loop-h.invariant.1 c.requires.solvable).safe.grows }
+pub fail-requires-then-is_cyclic : goal.fail-requires-then-is_cyclic
+fail-requires-then-is_cyclic c = record { stored = solve-stored c.requires.solvable (c.loop-h.invariant.1 c.requires.solvable); low = (c.loop-h.invariant.1 c.requires.solvable).safe.grows }
 
-pub returns-then-is_cyclic-2 : goal.returns-then-is_cyclic-2
-returns-then-is_cyclic-2 c = λ g. rw c.fail-then-is_cyclic-2.ensures.is (solve-cyclic g (c.loop-h.invariant.1 g) c.is_cyclic-2.ensures c.if-is_cyclic-2.true c.fail-then-is_cyclic-2.ensures.undone)
+pub returns-then-is_cyclic : goal.returns-then-is_cyclic
+returns-then-is_cyclic c = λ g. rw c.fail-then-is_cyclic.ensures.is (solve-cyclic g (c.loop-h.invariant.1 g) c.is_cyclic.ensures c.if-is_cyclic.true c.fail-then-is_cyclic.ensures.undone)
 
 pub returns : goal.returns
-returns c = λ g. solve-done g (c.loop-h.invariant.1 g) c.is_cyclic-2.ensures c.if-is_cyclic-2.false c.loop-h-test.false
+returns c = λ g. solve-done g (c.loop-h.invariant.1 g) c.is_cyclic.ensures c.if-is_cyclic.false c.loop-h-test.false

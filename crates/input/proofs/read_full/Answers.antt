@@ -5,7 +5,7 @@ use Rattle.std.specs.Io.KnownBytes.{Consumes}
 use Rattle.std.proofs.KnownBytes.{Consumes-trans}
 use borrow.Rule.Slice.PartMut.{put_mid, post_of}
 use lib.Seq.{take-add, take-append-le}
-use Rattle.input.proofs.read_given.Goals as goal
+use Rattle.input.proofs.read_full.Goals as goal
 
 take_split : (a b : ℕ) (old new : List ℕ) → a ≤ b → take a new ≡ take a old → take a old ++ slice_range new a b ≡ take b new
 take_split a b old new h front =
@@ -22,8 +22,8 @@ pub loop-done-preserved : goal.loop-done-preserved
 loop-done-preserved g c =
     let from = c.loop-done.done in
     let most = length c.loop-done.room - from in
-    let n = c.in-Ok.n in
+    let n = c.in_ok-n.n in
     let within = c.loop-done.invariant.1 in
-    let part = slice_range-put_mid from most n c.loop-done.room c.read.new.buf within c.in-Ok.ensures.bound.0 in
+    let part = slice_range-put_mid from most n c.loop-done.room c.read.new.buf within c.in_ok-n.ensures.bound.0 in
     let joined = take_split from (from + n) c.loop-done.room (put_mid from most c.loop-done.room c.read.new.buf) (omega arith) (take-put_mid_below _ _ _ _ _ (le_refl _) within) in
-    (search rules, search rules, subst (Consumes _ _) (ap (λ l. take from c.loop-done.room ++ l) (sym part) ∙ joined) (Consumes-trans _ _ _ _ _ c.loop-done.invariant.2 c.in-Ok.ensures.bytes.0))
+    (search rules, search rules, subst (Consumes _ _) (ap (λ l. take from c.loop-done.room ++ l) (sym part) ∙ joined) (Consumes-trans _ _ _ _ _ c.loop-done.invariant.2 c.in_ok-n.ensures.bytes.0))

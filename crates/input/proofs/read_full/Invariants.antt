@@ -1,7 +1,7 @@
 -- What is done are the bytes at the start of the room that the input has given.
 use Rattle.std.proofs.Common.{length, ◌-◌, ◌≤◌, take, ◌≡◌}
 use Rattle.std.specs.Io.KnownBytes.{Consumes}
-use Rattle.input.proofs.read_given.Given as goal
+use Rattle.input.proofs.read_full.Given as goal
 
 abbrev pub invariant-loop-done : goal.invariant-loop-done
 invariant-loop-done g l = (length l.room ≡ length l.initial.room) × (l.done ≤ length l.room) × (Consumes (g.R.Read.remaining l.fn.input) (g.R.Read.remaining l.input) (take l.done l.room))
