@@ -1,3 +1,4 @@
+pub mod LinesLaws
 pub mod LinesCases
 pub mod ReportsCases
 pub mod ListingsLaws

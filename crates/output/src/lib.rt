@@ -4,6 +4,7 @@
 
 pub mod entries;
 pub mod faults;
+pub mod lines;
 pub mod listings;
 pub mod names;
 pub mod numbers;

@@ -8,10 +8,12 @@ ghost use Rattle.output.specs.Prints.{printed_run};
 
 use crate::results::Written;
 use std::io::{self, Write};
-use syntax::{Fault, Report, Verdict};
+use syntax::{Fault, Report, Verdict, WORD_BYTES};
 
-// The most bytes of a verdict's words, and of a report's line.
+// The most bytes of a verdict's words, of a verdict's line with a name of a sheet or goal, and of a report's line.
 const VERDICT_BYTES: usize = 121;
+
+const LINE_BYTES: usize = VERDICT_BYTES + 1 + WORD_BYTES + 1;
 
 const REPORT_BYTES: usize = 53;
 
@@ -26,8 +28,8 @@ fn print_name<W: Write>(out: &mut W, name: &[u8]) -> io::Result<()>
     out.write_all(name)
 }
 
-/// Prints the line of a verdict, with the name handed back if there is one.
-pub fn print_line<W: Write>(out: &mut W, verdict: Verdict, name: &[u8]) -> io::Result<()>
+// Prints the line of a verdict in parts, with a name of any length.
+fn print_parts<W: Write>(out: &mut W, verdict: Verdict, name: &[u8]) -> io::Result<()>
     ensures { OnOk result (Appends (W.contents out.old) (W.contents out.new) (line_of verdict name.now)) }
 {
     let mut words = [0u8; VERDICT_BYTES];
@@ -35,6 +37,19 @@ pub fn print_line<W: Write>(out: &mut W, verdict: Verdict, name: &[u8]) -> io::R
     out.write_all(&words[..n])?;
     print_name(out, name)?;
     out.write_all(b"\n")
+}
+
+/// Prints the line of a verdict, with the name handed back if there is one. The line is written in one call of `write_all`, unless the name is longer than
+/// any of a sheet or goal.
+pub fn print_line<W: Write>(out: &mut W, verdict: Verdict, name: &[u8]) -> io::Result<()>
+    ensures { OnOk result (Appends (W.contents out.old) (W.contents out.new) (line_of verdict name.now)) }
+{
+    if WORD_BYTES < name.len() {
+        return print_parts(out, verdict, name);
+    }
+    let mut line = [0u8; LINE_BYTES];
+    let length = crate::lines::put_line(verdict, name, &mut line);
+    out.write_all(&line[..length])
 }
 
 /// Prints the report of a run, the line that ends it.

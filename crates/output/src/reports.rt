@@ -1,7 +1,7 @@
 // The line that ends a run, into a lent buffer.
 
 ghost use Rattle.std.specs.Prelude.{◌≡◌, ◌+◌, ◌≤◌};
-ghost use Rattle.words.specs.Buffers.{Appended};
+ghost use Rattle.words.specs.Buffers.{Appended, fitted_length, fitted};
 ghost use Rattle.output.specs.Reports.{report_line, kind_number, kind_word};
 
 use syntax::{Report, RunEnd};
@@ -17,6 +17,21 @@ pub fn kind_number(kind: RunEnd) -> usize
         RunEnd::Steps => 2,
         RunEnd::Full => 3,
         RunEnd::Deep => 4,
+    }
+}
+
+/// Writes the line that ends a run to the start of `out` and returns its length. Where the whole line does not fit, it writes nothing and returns 0. Either
+/// way a caller may print the first so many bytes of `out`.
+pub fn put_report(report: Report, out: &mut [u8]) -> usize
+    ensures length { result ≡ fitted_length (report_line report.kind report.answers report.steps) out.old }
+    ensures text { out.new ≡ fitted (report_line report.kind report.answers report.steps) out.old }
+{
+    let mut nothing = [0u8; 0];
+    let report_length = append_report(report, &mut nothing);
+    if report_length <= out.len() {
+        append_report(report, out)
+    } else {
+        0
     }
 }
 

@@ -242,6 +242,9 @@ narrow_rows = 208
 abbrev pub narrow_words : ℕ
 narrow_words = rows + narrow_rows * row_words
 
--- Under any sheet there is room for as many rows as there are keys. That is room behind the pending cells for the brackets of any answer.
+abbrev pub wide_rows : ℕ
+wide_rows = 3072
+
+-- Under any sheet. That is room behind the pending cells for the brackets of any answer.
 abbrev pub wide_words : ℕ
-wide_words = rows + key_count * row_words
+wide_words = rows + wide_rows * row_words

@@ -181,8 +181,11 @@ pub const NARROW_ROWS: usize = 208;
 /// The scratch words of a run under a short sheet with a short text, and of a test for at most one answer.
 pub const NARROW_WORDS: usize = ROWS + NARROW_ROWS * ROW_WORDS;
 
-/// The scratch words of any other run: room for as many rows as there are keys, and with it for the open brackets of every answer.
-pub const WIDE_WORDS: usize = ROWS + KEY_COUNT * ROW_WORDS;
+/// The rows of the memo that any other run has.
+pub const WIDE_ROWS: usize = 3072;
+
+/// The scratch words of any other run: with the rows there is room for the open brackets of every answer.
+pub const WIDE_WORDS: usize = ROWS + WIDE_ROWS * ROW_WORDS;
 
 // The texts that a name can stand in.
 const TEXTS: usize = 2;

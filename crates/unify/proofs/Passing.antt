@@ -9,12 +9,11 @@ use lib.Dec.{eqb}
 use borrow.Author.Tests.{eqb-true, eqb-false}
 use lib.ListN.{length, get_or}
 use Rattle.std.proofs.Common.{Ok, Err}
-use Rattle.unify.specs.declared.solve.TurnStop.TheVariants.{Clash, Bind}
 use Rattle.syntax.specs.Words.{first_name}
-use Rattle.machine.specs.Substitution.{RTerms, var, rcons, Binding, resolve}
+use Rattle.machine.specs.Substitution.{RTerms, var, Binding, resolve}
 use Rattle.run_layout.specs.Regions.{copies, places, cut_list, pairs, pair_of, pair_size, rows, loaded_node}
 use Rattle.run_layout.specs.Nodes.{Symbol, Node, Row, term_at, terms_at, count}
-use Rattle.run_layout.specs.State.{cell_of, variable_of, bindings}
+use Rattle.run_layout.specs.State.{cell_of, variable_of}
 use Rattle.run_layout.proofs.Nodes.{node-inside, node_end, variable-at, variable-size, row_first, row-order}
 use Rattle.run_layout.proofs.State.{variable-cell}
 use Rattle.run_layout.specs.declared.terms.At.{At}
@@ -28,15 +27,14 @@ use Rattle.unify.specs.Walks.{RowsBeside, Walkable, StopsAt, Walks}
 use Rattle.unify.specs.declared.walk.WalkStop.{WalkStop}
 use Rattle.unify.specs.declared.walk.WalkStop.TheVariants.{Met}
 use Rattle.unify.specs.Stacks.{end_of, rows_of, no_term}
-use Rattle.unify.specs.Turns.{Work, UnifiedOver, bound, over, RowsLeft, Turn, TurnGives, Crossable, Crosses, Turnable, moved_to}
+use Rattle.unify.specs.Turns.{Work, UnifiedOver, bound, over, RowsLeft, Turn, TurnGives, Turnable, Meetable, moved_to}
 use Rattle.unify.specs.Shapes.{SafeWork, SafeTurnable, SafeMeetable, SafeCrossable, PairFalls, TurnFalls, NoMoreLeft, TopPair, weight, mass, most_left}
-use Rattle.unify.proofs.Rules.{rows_same}
 use Rattle.unify.proofs.Rowwise.{right-some}
-use Rattle.unify.proofs.Closing.{closes-settled, closes-agree}
-use Rattle.unify.proofs.Stacked.{pair-others, pair-marks, pair_left, pair-right, pair-left-others, pair-right-others, rows_agree, stack-agrees, height}
+use Rattle.unify.proofs.Closing.{closes-agree}
+use Rattle.unify.proofs.Stacked.{pair-others, pair-marks, pair_left, pair-right, pair-left-others, pair-right-others, rows_agree, stack-agrees}
 use Rattle.unify.proofs.Shapes.{power-some, mass-agrees, rows-agreed}
-use Rattle.unify.proofs.Turning.{marks-trans, turns-alike, met-same}
-use Rattle.unify.proofs.Safe.{turn-room, met-inside, safe-met}
+use Rattle.unify.proofs.Turning.{marks-trans, turns-alike, met-same, met_turned, cross-same}
+use Rattle.unify.proofs.Safe.{turn-room, safe-met}
 
 -- ---- two terms that are the same
 
@@ -114,14 +112,6 @@ module _ {nodes state scratch : List ℕ} {n h : ℕ} (w : Work nodes state scra
 module _ {nodes state scratch : List ℕ} {n h : ℕ} (w : SafeWork nodes state scratch n h) {mid : List ℕ} (k : NoMoreLeft w mid (Ok h)) where
   abbrev pub safe-on : SafeWork nodes state mid n h
   safe-on = record { ss = w.ss; top = w.top; store = w.store; within = w.within; roomy = (let e : length mid ≡ length scratch = k.0.long in let o : rows ≤ length scratch = w.roomy in omega arith); rows = k.1.rows }
-
-  pub then-falls : (after : List ℕ) (t : Turn) → TurnFalls safe-on after t → TurnFalls w after t
-  then-falls after (Ok i) x = (
-    marks-trans scratch mid after k.0 x.0,
-    record { rows = x.1.rows; less = (let a : mass nodes (left_at after) i < mass nodes (left_at mid) h = x.1.less in let b : mass nodes (left_at mid) h < suc (mass nodes (left_at scratch) h) = k.1.less in omega arith) },
-  )
-  then-falls after (Err Clash) x = (marks-trans scratch mid after k.0 x.0, tt)
-  then-falls after (Err (Bind i c a)) x = (marks-trans scratch mid after k.0 x.0, x.1)
 
 -- ---- the sides where the top pair was moved on twice
 
@@ -424,24 +414,27 @@ moved-means {h = h} g e k = subst⁻¹ (λ (x : List ℕ). TurnGives g.work x (O
 pub moved-safe : {nodes state scratch after to : List ℕ} {h : ℕ} (s : SafeTurnable nodes state scratch h) → after ≡ to → NoMoreLeft s.work to (Ok h) → NoMoreLeft s.work after (Ok h)
 moved-safe {h = h} s e k = subst⁻¹ (λ (x : List ℕ). NoMoreLeft s.work x (Ok h)) e k
 
-pub turnable-is : {nodes state scratch mid : List ℕ} {h : ℕ} → mid ≡ scratch → SafeTurnable nodes state scratch h → SafeTurnable nodes state mid h
-turnable-is {nodes} {state} {h = h} e s = subst⁻¹ (λ (x : List ℕ). SafeTurnable nodes state x h) e s
+-- ---- the terms that are met, known to mean the same
 
-pub turned-is : {nodes state scratch mid after : List ℕ} {h : ℕ} (t : Turn) → mid ≡ scratch → ((v : Turnable nodes state mid h) → TurnGives v.work after t) → (v : Turnable nodes state scratch h) → TurnGives v.work after t
-turned-is {nodes} {state} {after = after} {h = h} t e f = subst (λ (x : List ℕ). (v : Turnable nodes state x h) → TurnGives v.work after t) e f
+module _ {nodes state scratch : List ℕ} {h : ℕ} {p q : At} (g : SafeCrossable nodes state scratch h p q) where
+  pub crossed-pairable : Pairable nodes scratch p q
+  crossed-pairable =
+      record {
+        inside = (let a : p.node + loaded_node ≤ length nodes = node-inside g.work.ss nodes p.node g.left in omega arith);
+        inside_right = (let a : q.node + loaded_node ≤ length nodes = node-inside g.work.ss nodes q.node g.right in omega arith);
+        copy = g.copy;
+        copy_right = g.copy_right;
+        roomy = g.work.roomy;
+      }
 
-pub falls-is : {nodes state scratch mid after : List ℕ} {h : ℕ} (t : Turn) → mid ≡ scratch → ((v : SafeTurnable nodes state mid h) → TurnFalls v.work after t) → (v : SafeTurnable nodes state scratch h) → TurnFalls v.work after t
-falls-is {nodes} {state} {after = after} {h = h} t e f = subst (λ (x : List ℕ). (v : SafeTurnable nodes state x h) → TurnFalls v.work after t) e f
+  abbrev pub crossed-turnable : SafeTurnable nodes state scratch h
+  crossed-turnable = record { n = g.n; work = g.work; some = g.some }
 
--- ---- a turn behind the walk
+  pub falls-past : {after : List ℕ} → NoMoreLeft g.work after (Ok h) → PairFalls g.work after (Ok h)
+  falls-past {after} k = (k.0, record { rows = k.1.rows; less = (let s : 0 < weight (h - 1) = power-some most_left (pairs - (h - 1)) (omega arith) in let x : mass nodes (left_at after) h < suc (mass nodes (left_at scratch) h) = k.1.less in omega arith) })
 
-module _ {nodes state scratch : List ℕ} {h : ℕ} (s : SafeTurnable nodes state scratch h) {mid : List ℕ} (k : NoMoreLeft s.work mid (Ok h)) where
-  abbrev pub turnable-on : SafeTurnable nodes state mid h
-  turnable-on = record { n = s.n; work = safe-on s.work k; some = s.some }
-
-  pub falls-on : (after : List ℕ) (t : Turn) → ((v : SafeTurnable nodes state mid h) → TurnFalls v.work after t) → TurnFalls s.work after t
-  falls-on after t f = then-falls s.work k after t (f turnable-on)
-
-module _ {nodes state scratch : List ℕ} {h : ℕ} (g : Turnable nodes state scratch h) {mid : List ℕ} (k : TurnGives g.work mid (Ok h)) where
-  pub turned-on : (after : List ℕ) (t : Turn) → ((v : Turnable nodes state mid h) → TurnGives v.work after t) → TurnGives g.work after t
-  turned-on after t f = then-turned g.work k after t (f (record { n = g.n; work = work-on g.work k; some = g.some; closes = k.1.closes }))
+module _ {nodes state scratch : List ℕ} {h : ℕ} {l r : Side} (g : Meetable nodes state scratch h l r) {s z : ℕ} (es : s ≡ get_or nodes (l.at + 1) 0) (ez : z ≡ get_or nodes (r.at + 1) 0) {mid : List ℕ} (e : mid ≡ pair_words scratch (h - 1) (record l { at = l.at + s }) (record r { at = r.at + z })) where
+  pub met-passed : KnownSame nodes mid (record { node = l.at; copy = l.copy }) (record { node = r.at; copy = r.copy }) → (after : List ℕ) → ((v : Turnable nodes state mid h) → TurnGives v.work after (Ok h)) → TurnGives g.work after (Ok h)
+  met-passed same after f =
+      let k : TurnGives g.work mid (Ok h) = met_turned g es ez e mid (Ok h) (λ v. cross-same v (known-means v.work.ss nodes mid (bound (over v.work)) (record { node = l.at; copy = l.copy }) (record { node = r.at; copy = r.copy }) v.left v.right same (same.cut.is (bound (over v.work)) v.work.memo.cuts))) in
+      then-turned g.work k after (Ok h) (f (record { n = g.n; work = work-on g.work k; some = g.some; closes = k.1.closes }))

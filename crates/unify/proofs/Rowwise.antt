@@ -16,6 +16,7 @@ use Rattle.run_layout.proofs.Nodes.{node-inside, node_end, node-size, compound-a
 use Rattle.unify.specs.Rows.{unify_rows, nodes_of, nodes_of_all, rows_size}
 use Rattle.unify.specs.Walks.{RowsBeside, Walkable, TwoNodes, StopsAt, RowsWalked, Walks, WalksTerms, WalksRows}
 use Rattle.std.proofs.Common.{Ok, Err}
+use Rattle.std.specs.Prelude.{is_err}
 use Rattle.unify.specs.declared.walk.WalkStop.{WalkStop}
 use Rattle.unify.specs.declared.walk.WalkStop.TheVariants.{Clash, Met}
 use Rattle.unify.proofs.Rules.{rows-open, rows-clash, count-resolve}
@@ -291,6 +292,15 @@ pub list_on : (nodes : List ℕ) (p e q : ℕ) (g : Walkable nodes p e q) (l : p
 list_on nodes p e q g l first d k s z a b o m =
     list-next nodes p e q g l (subst (λ (x : RowsWalked). WalksTerms nodes p q x) d k) o
     (subst (λ (y : ℕ). WalksRows nodes (p + get_or nodes (p + 1) 0) e (q + y) o) b (subst (λ (y : ℕ). WalksRows nodes (p + y) e (q + z) o) a m))
+
+-- a walk that stopped, and one that came to the end
+pub list-stopped : (nodes : List ℕ) (p e q : ℕ) (g : Walkable nodes p e q) (l : p < e) (first : RowsWalked) → is_err first ≡ true → WalksTerms nodes p q first → Walks g.ss nodes p e q g.f first
+list-stopped nodes p e q g l (Err x) i k = list_stop nodes p e q g l x k
+list-stopped nodes p e q g l (Ok tt) i k = absurd (cc)
+
+pub walked-on : (first : RowsWalked) → is_err first ≡ false → first ≡ Ok tt
+walked-on (Ok tt) i = refl
+walked-on (Err x) i = absurd (cc)
 
 pub term-on : (nodes : List ℕ) (p q : ℕ) (g : TwoNodes nodes p q) (w z s : ℕ) → w ≡ get_or nodes p 0 → z ≡ get_or nodes q 0 → first_name ≤ w → first_name ≤ z → w ≡ z → s ≡ get_or nodes (p + 1) 0 → (o : RowsWalked)
     → WalksRows nodes (p + loaded_node) (p + s) (q + loaded_node) o → Walks g.ss nodes p (p + get_or nodes (p + 1) 0) q (q + get_or nodes (q + 1) 0) o

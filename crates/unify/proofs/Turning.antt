@@ -51,7 +51,7 @@ turns-alike o ls rs ls' rs' after (Err (Bind k x a)) e g =
 -- ---- two terms that are the same
 
 module _ {nodes state scratch : List ℕ} {h : ℕ} {p q : At} (g : Crossable nodes state scratch h p q) where
-  cross-same : resolve (bound (over g.work)) (term_at g.work.ss nodes p.node p.copy) ≡ resolve (bound (over g.work)) (term_at g.work.ss nodes q.node q.copy) → Crosses g scratch (Ok h)
+  pub cross-same : resolve (bound (over g.work)) (term_at g.work.ss nodes p.node p.copy) ≡ resolve (bound (over g.work)) (term_at g.work.ss nodes q.node q.copy) → Crosses g scratch (Ok h)
   cross-same e = (
     record { long = refl; words = λ j l. refl },
     record {
@@ -493,6 +493,10 @@ module _ {nodes state scratch : List ℕ} {h : ℕ} (g : Turnable nodes state sc
 -- what two words remember is remembered of what they are
 pub remembers-at : {before after : List ℕ} {x y left right : ℕ} → x ≡ left → y ≡ right → Remembers before after x y → Remembers before after left right
 remembers-at {before} {after} {x} {y} {left} {right} a b k = subst (Remembers before after left) b (subst (λ (z : ℕ). Remembers before after z y) a k)
+
+-- where nothing is remembered
+pub remembers-none : (scratch : List ℕ) (left right : ℕ) → Remembers scratch scratch left right
+remembers-none scratch left right = record { long = refl; words = λ j l. refl; links = λ m e k. k }
 
 module _ {scratch : List ℕ} {h : ℕ} {l r : Side} (g : Passable scratch h l r) where
   bs : List Binding

@@ -3,6 +3,8 @@ ghost use Rattle.std.specs.Prelude.{◌≡◌, ◌+◌, ◌≤◌, ◌<◌, ◌^
 ghost use Rattle.run_layout.specs.Regions.{cells, pending, loaded_node};
 ghost use Rattle.bindings.specs.Cells.{Stored, Undone};
 ghost use Rattle.bindings.specs.Scratch.{Roomy};
+ghost use Rattle.bindings.specs.Cuts.{KnownSame};
+ghost use Rattle.bindings.specs.Chains.{Pairable};
 ghost use Rattle.bindings.specs.Plain.{Closed};
 ghost use Rattle.unify.specs.declared.solve.TurnStop.TheVariants.{Bind};
 ghost use Rattle.unify.specs.Turns.{Crossed, Crossable, Crosses, PairTurned, Meetable, Turnable, TurnGives, Openable, Passable, moved_to};
@@ -27,7 +29,7 @@ use syntax::FIRST_NAME;
 use words::tables::{put, size_at, word_at};
 
 // The turns after which it is first looked whether bindings close a cycle.
-const FIRST_TURNS: usize = 32;
+const FIRST_TURNS: usize = 4;
 
 // The words of terms that such a look goes over at most, for each turn since the last one: so that looks take no longer than turns.
 const WORDS_A_TURN: usize = 32;
@@ -161,51 +163,6 @@ fn cross(
     decide(nodes, scratch, h, e.left, e.right)
 }
 
-// The top pair, its rows l and r where they first have a variable on a side: moved past these two terms, which are then looked at.
-fn meet(
-    nodes: &[u32],
-    state: &[u32],
-    scratch: &mut [u32],
-    h: usize,
-    l: Side,
-    r: Side,
-) -> Result<usize, TurnStop>
-    requires { SafeMeetable nodes.now state.now scratch.old h l r }
-    ensures means { (g : Meetable nodes.now state.now scratch.old h l r) → TurnGives g.work scratch.new result }
-    ensures safe { (s : SafeMeetable nodes.now state.now scratch.old h l r) → TurnFalls s.work scratch.new result }
-{
-    let i = l.at + size_at(nodes, l.at);
-    let j = r.at + size_at(nodes, r.at);
-    put_pair(scratch, h - 1, Side { at: i, ..l }, Side { at: j, ..r });
-    let p = At {
-        node: l.at,
-        copy: l.copy,
-    };
-    let q = At {
-        node: r.at,
-        copy: r.copy,
-    };
-    cross(nodes, state, scratch, h, p, q)
-}
-
-// The top pair's rows are done: its two terms, the left one of so many words, are equal from now on.
-fn pass(scratch: &mut [u32], h: usize, size: usize, l: Side, r: Side) -> Result<usize, TurnStop>
-    requires { SafePassable scratch.old h l r }
-    ensures means { (g : Passable scratch.old h l r) → TurnGives g.work scratch.new result }
-    ensures safe { (s : SafePassable scratch.old h l r) → TurnFalls s.work scratch.new result }
-{
-    let left = pack(At {
-        node: l.root,
-        copy: l.copy,
-    });
-    let right = pack(At {
-        node: r.root,
-        copy: r.copy,
-    });
-    remember(scratch, h, size, left, right);
-    Ok(h - 1)
-}
-
 // The places that the rows of the top pair are moved on to.
 #[derive(Clone, Copy)]
 struct Places {
@@ -243,7 +200,9 @@ fn past_same(nodes: &[u32], scratch: &[u32], h: usize, l: Side, r: Side) -> Plac
     Places { left: i, right: j }
 }
 
-// The rows of the top pair of a stack of height h moved past variables that are known to mean the same.
+// The rows of the top pair of a stack of height h moved past variables that are known to mean the same. Not inlined, nor is `look`: both are rare, and within
+// the loop of turns they would slow it down.
+#[inline(never)]
 fn pass_same(nodes: &[u32], scratch: &mut [u32], h: usize)
     requires { (state : List ℕ) × SafeTurnable nodes.now state scratch.old h }
     ensures means { (state : List ℕ) (g : Turnable nodes.now state scratch.old h) → TurnGives g.work scratch.new (Ok h) }
@@ -261,8 +220,69 @@ fn pass_same(nodes: &[u32], scratch: &mut [u32], h: usize)
     );
 }
 
+// Whether short cuts were made that show two terms to be variables that mean the same.
+fn is_known(nodes: &[u32], scratch: &[u32], p: At, q: At) -> bool
+    requires { Pairable nodes.now scratch.now p q }
+    ensures { result ≡ true → KnownSame nodes.now scratch.now p q }
+{
+    word_at(scratch, CUTS_WORD) != 0 && is_same(nodes, scratch, p, q)
+}
+
+// The top pair, its rows l and r where they first have a variable on a side: moved past these two terms, which are then looked at. Where they are known to mean
+// the same, a walk was long, and more of them may follow: the rows are moved past these too.
+fn meet(
+    nodes: &[u32],
+    state: &[u32],
+    scratch: &mut [u32],
+    h: usize,
+    l: Side,
+    r: Side,
+) -> Result<usize, TurnStop>
+    requires { SafeMeetable nodes.now state.now scratch.old h l r }
+    ensures means { (g : Meetable nodes.now state.now scratch.old h l r) → TurnGives g.work scratch.new result }
+    ensures safe { (s : SafeMeetable nodes.now state.now scratch.old h l r) → TurnFalls s.work scratch.new result }
+{
+    let i = l.at + size_at(nodes, l.at);
+    let j = r.at + size_at(nodes, r.at);
+    put_pair(scratch, h - 1, Side { at: i, ..l }, Side { at: j, ..r });
+    let p = At {
+        node: l.at,
+        copy: l.copy,
+    };
+    let q = At {
+        node: r.at,
+        copy: r.copy,
+    };
+    if is_known(nodes, scratch, p, q) {
+        pass_same(nodes, scratch, h);
+        return Ok(h);
+    }
+    cross(nodes, state, scratch, h, p, q)
+}
+
+// The top pair's rows are done: its two terms, the left one of so many words, are equal from now on. Where no pair is left, this is not remembered.
+fn pass(scratch: &mut [u32], h: usize, size: usize, l: Side, r: Side) -> Result<usize, TurnStop>
+    requires { SafePassable scratch.old h l r }
+    ensures means { (g : Passable scratch.old h l r) → TurnGives g.work scratch.new result }
+    ensures safe { (s : SafePassable scratch.old h l r) → TurnFalls s.work scratch.new result }
+{
+    if h == 1 {
+        return Ok(0);
+    }
+    let left = pack(At {
+        node: l.root,
+        copy: l.copy,
+    });
+    let right = pack(At {
+        node: r.root,
+        copy: r.copy,
+    });
+    remember(scratch, h, size, left, right);
+    Ok(h - 1)
+}
+
 // One turn at the top of a stack of height h.
-fn turn_top(nodes: &[u32], state: &[u32], scratch: &mut [u32], h: usize) -> Result<usize, TurnStop>
+fn next_turn(nodes: &[u32], state: &[u32], scratch: &mut [u32], h: usize) -> Result<usize, TurnStop>
     requires { SafeTurnable nodes.now state.now scratch.old h }
     ensures means { (g : Turnable nodes.now state.now scratch.old h) → TurnGives g.work scratch.new result }
     ensures safe { (s : SafeTurnable nodes.now state.now scratch.old h) → TurnFalls s.work scratch.new result }
@@ -285,18 +305,6 @@ fn turn_top(nodes: &[u32], state: &[u32], scratch: &mut [u32], h: usize) -> Resu
             Side { at: right, ..r },
         ),
     }
-}
-
-// One turn at the top of a stack of height h. Where short cuts were made, a walk was long, and it may be met again and again.
-fn next_turn(nodes: &[u32], state: &[u32], scratch: &mut [u32], h: usize) -> Result<usize, TurnStop>
-    requires { SafeTurnable nodes.now state.now scratch.old h }
-    ensures means { (g : Turnable nodes.now state.now scratch.old h) → TurnGives g.work scratch.new result }
-    ensures safe { (s : SafeTurnable nodes.now state.now scratch.old h) → TurnFalls s.work scratch.new result }
-{
-    if word_at(scratch, CUTS_WORD) != 0 {
-        pass_same(nodes, scratch, h);
-    }
-    turn_top(nodes, state, scratch, h)
 }
 
 // A cell that is to be bound becomes a pending one, of which there are so many, unless it is plain that it closes no cycle. How many there are then.
@@ -323,8 +331,17 @@ fn doubled(turns: usize) -> usize
     }
 }
 
+// The turns that are left until the next look, after one at a stack of height h: they are counted while cells are pending.
+fn after_turn(left: usize, pending: usize, h: usize) -> usize {
+    if pending == 0 {
+        return left;
+    }
+    left.saturating_sub(1 + h / BIG_PAIRS * HIGH_TURN)
+}
+
 // A look, over so many words of terms at most, at whether one of so many pending cells reaches a cycle: none where it does, else how many cells are pending then.
 // Short cuts and memo are forgotten.
+#[inline(never)]
 fn look(
     nodes: &[u32],
     state: &[u32],
@@ -378,7 +395,7 @@ fn solve_pair(
     let mut left = FIRST_TURNS;
     // How many turns there will be is known only at the end.
     while 0 < h {
-        if left == 0 && 0 < count {
+        if 0 < count && left == 0 {
             let words = turns.saturating_mul(WORDS_A_TURN);
             let Some(still) = look(nodes, state, scratch, count, words) else {
                 return fail(state, n, trail);
@@ -387,7 +404,7 @@ fn solve_pair(
             turns = doubled(turns);
             left = turns;
         } else {
-            left = left.saturating_sub(1 + h / BIG_PAIRS * HIGH_TURN);
+            left = after_turn(left, count, h);
             let t = next_turn(nodes, state, scratch, h);
             match t {
                 Ok(j) => h = j,

@@ -70,7 +70,8 @@ pub fn unify_list(nodes: &[u32], p: usize, e: usize, q: usize, h: usize) -> Resu
 }
 
 // As `unify_term`, without a call where it has no arguments or the first of them is a variable. This and `walk_rows` stand beside `unify_list` and `unify_term`
-// since most walks end at once, and these decide the speed of a step.
+// since most walks end at once, and these decide the speed of a step: they are put into each caller, since a call would cost more than most walks.
+#[inline(always)]
 fn begin_term(nodes: &[u32], p: usize, q: usize, h: usize) -> Result<(), WalkStop>
     requires { TwoNodes nodes.now p q }
     ensures walks { WalksTerms nodes.now p q result }
@@ -107,6 +108,7 @@ fn begin_term(nodes: &[u32], p: usize, q: usize, h: usize) -> Result<(), WalkSto
 }
 
 /// As `unify_list`, its first terms by `begin_term`: most walks end there.
+#[inline(always)]
 pub fn walk_rows(nodes: &[u32], p: usize, e: usize, q: usize, h: usize) -> Result<(), WalkStop>
     requires { Walkable nodes.now p e q }
     ensures walks { WalksRows nodes.now p e q result }
@@ -115,7 +117,11 @@ pub fn walk_rows(nodes: &[u32], p: usize, e: usize, q: usize, h: usize) -> Resul
     if e <= p {
         return Ok(());
     }
-    begin_term(nodes, p, q, h)?;
+    // No `?`, which would copy what was found: that costs a step much.
+    let begun = begin_term(nodes, p, q, h);
+    if begun.is_err() {
+        return begun;
+    }
     let i = p + size_at(nodes, p);
     let j = q + size_at(nodes, q);
     unify_list(nodes, i, e, j, h)

@@ -1,15 +1,14 @@
 -- Laws of appending and of decimal digits.
-use Prim.Native.Nat.{ℕ, zero, suc, min, ◌+◌, ◌-◌, ◌/◌, ◌%◌, ◌^◌, ◌≤◌, ◌<◌, zero-le}
+use Prim.Native.Nat.{ℕ, zero, suc, ◌+◌, ◌/◌, ◌%◌, ◌^◌, ◌≤◌, ◌<◌, zero-le}
 use native.Mathlib.Nat.{div-lt_iff_lt-mul, pow-suc, add-zero, add-suc, suc-add}
 use native.Mathlib.Omega.{arith}
-use mathlib.Core.Path.{◌≡◌, refl, sym, ap, ◌∙◌}
+use mathlib.Core.Path.{◌≡◌, refl, sym, ap, subst, ◌∙◌}
 use mathlib.Core.Bool.{Bool, true, false}
 use mathlib.Core.List.{List, [], ◌∷◌, ◌++◌}
 use lib.Dec.{leb, ltb, lit<}
-use lib.ListN.{length, take, drop, set, length-set, length-append}
-use lib.Seq.{sets, sets-eq, length-take-le, set_out, take_all}
-use borrow.Rule.Slice.PartMut.{put_mid}
-use Rattle.std.proofs.lemmas.Slice.{put_mid-paste}
+use lib.ListN.{length, take, drop, set, get_or, length-append}
+use lib.Seq.{sets, set_out, take_all}
+use Rattle.std.proofs.lemmas.List.{take_more}
 use borrow.Author.Tests.{ltb-true, ltb-false, lt-ltb, le-ltb, le-leb, lt-leb}
 use Rattle.words.specs.Buffers.{Appended, digits, decimal, fitted_length, fitted}
 
@@ -40,30 +39,11 @@ spelt e p = rw e p
 pub out_of_range : {A : Type 0} (l : List A) (i : ℕ) (b : A) → length l ≤ i → Appended l i (b ∷ []) l (i + 1)
 out_of_range l i b h = record { text = sym (set_out l i b h); past = refl }
 
--- items behind those that fit are not stored
-sets_fitting : {A : Type 0} (l : List A) (i n : ℕ) (xs : List A) → min (length xs) (length l - i) ≤ n → sets l i xs ≡ sets l i (take n xs)
-sets_fitting l i zero [] h = refl
-sets_fitting l i (suc n) [] h = refl
-sets_fitting l i zero (x ∷ xs) h =
-    ap (λ m. sets m (suc i) xs) (set_out l i x (omega (arith, h))) ∙ sets_fitting l (suc i) zero xs (omega (arith, h))
-sets_fitting l i (suc n) (x ∷ xs) h = sets_fitting (set l i x) (suc i) n xs (omega (arith, h, length-set l i x))
-
--- past the end none fits
-pub all_out : {A : Type 0} (l : List A) (i : ℕ) (xs : List A) → length l ≤ i → Appended l i xs l (i + length xs)
-all_out l i xs h = record { text = sym (sets_fitting l i 0 xs (omega (arith, h))); past = refl }
-
--- those that fit, stored at once
-pub all_fitting : {A : Type 0} (l : List A) (i n k : ℕ) (xs ys : List A) → i < length l → n ≡ min (length xs) (length l - i) → k ≡ n → ys ≡ take n xs
-    → Appended l i xs (put_mid i k l ys) (i + length xs)
-all_fitting l i n k xs ys h e f w =
-    let long : length (take n xs) ≡ n = length-take-le n xs (omega (arith, e)) in
-    record {
-      text =
-          put_mid-paste i k l ys (take n xs) n w (sym f) (sym long)
-          ∙ ap (λ m. take i l ++ m ++ drop (i + n) l) (take_all n (take n xs) (omega (arith, long)))
-          ∙ sym (sets_fitting l i n xs (omega (arith, e)) ∙ sets-eq (take n xs) l i (omega (arith, e, long)) ∙ simp long);
-      past = refl;
-    }
+-- one item of a list more
+pub one_more : {A : Type 0} (xs : List A) (i : ℕ) (x : A) {l m n : List A} {at j k : ℕ} → i < length xs → x ≡ get_or xs i x → Appended l at (take i xs) m j
+    → Appended m j (x ∷ []) n k → Appended l at (take (i + 1) xs) n k
+one_more xs i x {l} {m} {n} {at} {j} {k} h e p q =
+    subst (λ ys. Appended l at ys n k) (sym (take_more xs i x h)) (then p (subst (λ y. Appended m j (y ∷ []) n k) e q))
 
 -- all of a text is such a part
 pub whole_part : (l : List ℕ) (at : ℕ) (ws m : List ℕ) (past : ℕ) → Appended l at (take (length ws) (drop 0 ws)) m past → Appended l at ws m past

@@ -17,16 +17,27 @@ pub fn append_byte(byte: u8, out: &mut [u8], at: usize) -> usize
     at + 1
 }
 
-/// Appends all items of a slice, of whatever type.
+// Appends one item, of whatever type.
+fn append_item<T: Copy>(item: T, out: &mut [T], at: usize) -> usize
+    requires { at + 1 < 2 ^ 64 }
+    ensures { Appended out.old at (item ∷ []) out.new result }
+{
+    if at < out.len() {
+        out[at] = item;
+    }
+    at + 1
+}
+
+/// Appends all items of a slice, of whatever type. One by one: so a program in C that links the library needs no `memcpy` for it.
 pub fn append_all<T: Copy>(items: &[T], out: &mut [T], at: usize) -> usize
     requires { at + length items.now < 2 ^ 64 }
     ensures { Appended out.old at items.now out.new result }
 {
-    if at < out.len() {
-        let fitting = items.len().min(out.len() - at);
-        out[at..at + fitting].copy_from_slice(&items[..fitting]);
+    let mut past = at;
+    for i in 0..items.len() {
+        past = append_item(items[i], out, past);
     }
-    at + items.len()
+    past
 }
 
 /// Appends the `len` bytes of a text that begin at `from`.

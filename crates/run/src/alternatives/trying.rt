@@ -12,6 +12,8 @@ use unify::solve::unify_closed;
 use words::tables::word_at;
 
 /// Tries clause `k` for the call at the top, as the copy one past its path; where the head unifies, the body is laid on top.
+// It is a part of each step of a run, and has another caller besides: put into both, as a call it would cost a step much.
+#[inline(always)]
 pub fn try_clause(
     program: Compiled,
     state: &mut [u32],

@@ -1,22 +1,13 @@
--- The verdict's words, the name and the line feed, one after another.
-use Rattle.std.proofs.Common.{◌++◌, [], ◌∷◌, subst, take}
-use Rattle.std.proofs.KnownBytes.{Appends-trans}
-use Rattle.std.proofs.lemmas.Result.{on_ok_weaker}
+-- The line of a short name is written whole, since it fits its buffer.
+use Rattle.std.proofs.Common.{OnOk, subst, arith}
+use Rattle.std.specs.Prelude.{replicate}
 use Rattle.std.specs.Io.KnownBytes.{Appends}
-use Rattle.output.specs.Words.{verdict_words}
-use Rattle.output.specs.Lines.{line_of, name_word}
-use Rattle.output.proofs.PrintingLaws.{whole}
+use Rattle.output.specs.Lines.{line_of}
+use Rattle.output.proofs.PrintingLaws.{whole_put}
 use Rattle.output.proofs.printing.print_line.Goals as goal
 
 pub returns : goal.returns
-unfolding line_of
 returns g c =
-    let first = g.W.Write.contents c.args.out.now in
-    let second = g.W.Write.contents c.write_all.new.self in
-    let third = g.W.Write.contents c.print_name.new.out in
-    let last = g.W.Write.contents c.write_all-2.new.self in
-    let words = verdict_words c.args.verdict in
-    let name = name_word c.args.name.now in
-    let written : Appends first second words = subst (Appends first second) (whole words c.append_verdict-n.ensures.wrote c.append_verdict-n.ensures.within) c.in_ok-write_all.ensures.bytes in
-    on_ok_weaker c.write_all-2.result
-    (Appends-trans first third last (words ++ name) (10 ∷ []) (Appends-trans first second third words name written c.in_ok-print_name.ensures)) c.write_all-2.ensures.bytes
+    let line = line_of c.args.verdict c.args.name.now in
+    subst (λ bs. OnOk c.write_all.result (Appends (g.W.Write.contents c.args.out.now) (g.W.Write.contents c.write_all.new.self) bs))
+    (whole_put line (replicate 154 0) c.put_line-length.ensures.length c.put_line-length.ensures.text (omega (arith, c.put_line-length.ensures.within))) c.write_all.ensures.bytes

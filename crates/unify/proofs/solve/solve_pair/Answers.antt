@@ -1,5 +1,3 @@
-use Prim.Native.Nat.{◌-◌}
-use mathlib.Core.Path.{refl}
 use native.Mathlib.Omega.{arith}
 use Rattle.unify.proofs.Solving.{solve-begin, mass-low, solve-stored, solve-testable, solve-cyclic, solve-done, look-lost, look-on, look-mass, solve-turnable, solve-clash, turn-next, turn-falls, due-stored, due-room, due-closed, bind-next, bind-falls}
 use Rattle.unify.proofs.solve.solve_pair.Goals as goal
@@ -18,11 +16,11 @@ fail-requires c = record { stored = solve-stored c.requires.solvable (c.loop-h.i
 pub returns-in_default : goal.returns-in_default
 returns-in_default c = λ g. rw c.fail.ensures.is (look-lost g (c.loop-h.invariant.1 g) c.look.ensures c.in_default.is c.fail.ensures.undone)
 
-pub loop-h-smaller-then-count-gt0 : goal.loop-h-smaller-then-count-gt0
-loop-h-smaller-then-count-gt0 c = omega (arith, look-mass c.requires.solvable (c.loop-h.invariant.1 c.requires.solvable) c.look.ensures c.in-Some.is, c.doubled-turns.ensures c.loop-h.invariant.0.1, c.if-left-eq0.true)
+pub loop-h-smaller-then-left-eq0 : goal.loop-h-smaller-then-left-eq0
+loop-h-smaller-then-left-eq0 c = omega (arith, look-mass c.requires.solvable (c.loop-h.invariant.1 c.requires.solvable) c.look.ensures c.in-Some.is, c.doubled-turns.ensures c.loop-h.invariant.0.1, c.if-left-eq0.true)
 
-pub loop-h-preserved-then-count-gt0 : goal.loop-h-preserved-then-count-gt0
-loop-h-preserved-then-count-gt0 c = ((c.loop-h.invariant.0.0, c.doubled-turns.ensures c.loop-h.invariant.0.1), λ g. look-on g (c.loop-h.invariant.1 g) c.look.ensures c.in-Some.is)
+pub loop-h-preserved-then-left-eq0 : goal.loop-h-preserved-then-left-eq0
+loop-h-preserved-then-left-eq0 c = ((c.loop-h.invariant.0.0, c.doubled-turns.ensures c.loop-h.invariant.0.1), λ g. look-on g (c.loop-h.invariant.1 g) c.look.ensures c.in-Some.is)
 
 -- ---- a turn
 

@@ -1,11 +1,11 @@
--- What fits is stored at once; past the end nothing fits.
-use Rattle.std.proofs.Common.{arith}
-use Rattle.words.proofs.BuffersLaws.{all_out, all_fitting}
+-- All items are appended, one after another.
+use Rattle.std.proofs.Common.{arith, ◌∙◌}
+use Rattle.words.proofs.BuffersLaws.{one_more}
 use Rattle.words.proofs.buffers.append_all.Goals as goal
-use Rattle.words.proofs.buffers.append_all.Goals.{then-at-out, else-at-out}
 
-pub returns : goal.returns
-returns g c = elim c.if-at-out.branch [
-  | then-at-out w ↦ rw w.out-is (all_fitting _ _ _ _ _ _ w.if-at-out.true w.min-fitting.ensures (omega arith) w.copy_from_slice.ensures.after)
-  | else-at-out w ↦ rw w.out-is (all_out _ _ _ w.if-at-out.false)
-]
+pub loop-i-preserved : goal.loop-i-preserved
+loop-i-preserved g c = (
+  c.append_item-past.auto.out ∙ c.loop-i.invariant.0,
+  omega (arith, c.append_item-past.ensures.past, c.loop-i.invariant.1),
+  one_more c.args.items.now c.loop-i.i c.index-items-i.result c.loop-i-test.true c.index-items-i.is c.loop-i.invariant.2 c.append_item-past.ensures,
+)
